@@ -1,0 +1,13 @@
+pub mod BitLists
+pub mod Blank
+pub mod ChainLaws
+pub mod EventLists
+pub mod Examples
+pub mod Formed
+pub mod Kept
+pub mod LeafFormed
+pub mod LeafLaws
+pub mod LeafTrees
+pub mod Links
+pub mod Spread
+pub mod TreeLaws

@@ -1,0 +1,4 @@
+pub mod Generic
+pub mod Lists
+pub mod Sorting
+pub mod Comparing

@@ -1,0 +1,6 @@
+pub mod Values
+pub mod Chains
+pub mod Lists
+pub mod Order
+pub mod Types
+pub mod Trees

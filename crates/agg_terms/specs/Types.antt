@@ -1,0 +1,58 @@
+-- The types at each link of a chain.
+use Rattle.std.specs.Prelude.{ℕ, ◌+◌, ◌-◌, ◌/◌, ℤ, ◌-ℤ◌, nat_abs, Bool, true, false, cond, List, [], ◌∷◌, length, map, get_or}
+use Rattle.agg_terms.specs.Chains.{Arr, Array, Chain, ForEach, If, MapOf, MapTy, Merge, Nullable, Resample, Signed, StateOf, Str, Ty, tys_list}
+use Rattle.agg_terms.specs.Lists.{front, rest_of}
+
+-- how many intervals: end - start divided by step, rounded up
+abbrev pub intervals : ℤ → ℤ → ℕ → ℕ
+intervals start end step = (nat_abs (end -ℤ start) + (step - 1)) / step
+
+abbrev pub bare : Ty → Ty
+bare (Nullable t) = bare t
+bare t = t
+
+abbrev pub may_be_null : Ty → Bool
+may_be_null (Nullable t) = true
+may_be_null _ = false
+
+abbrev pub is_signed : Ty → Bool
+is_signed (Signed n) = true
+is_signed (Nullable t) = is_signed t
+is_signed _ = false
+
+abbrev pub first_type : List Ty → Ty
+first_type ts = get_or ts 0 Str
+
+abbrev pub any_null : List Ty → Bool
+any_null [] = false
+any_null (t ∷ ts) = cond (may_be_null t) true (any_null ts)
+
+-- the arguments after the time
+abbrev pub conditions : {X : Type 0} → List X → ℕ
+conditions ts = length (rest_of ts)
+
+-- the types at the next link inward
+abbrev pub element : Ty → Ty
+element (Arr t) = t
+element t = t
+
+abbrev pub map_part : Ty → Ty
+map_part (MapTy k t) = t
+map_part t = t
+
+abbrev pub key_type : Ty → Ty
+key_type (MapTy k t) = k
+key_type t = t
+
+abbrev pub state_args : Ty → List Ty
+state_args (StateOf c ts) = tys_list ts
+state_args t = []
+
+abbrev pub inward : Chain → List Ty → List Ty
+inward (If c) ts = front ts
+inward (Resample start end step c) ts = front ts
+inward (Array c) ts = map element ts
+inward (ForEach c) ts = map element ts
+inward (MapOf c) ts = map map_part ts
+inward (Merge c) ts = state_args (first_type ts)
+inward _ ts = ts
