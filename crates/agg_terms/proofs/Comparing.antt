@@ -1,11 +1,13 @@
 -- The order of values is total, and equal values are the same.
-use Rattle.std.proofs.Common.{◌≡◌, ℕ, ◌<◌, ◌≤◌, ℤ, Bool, true, false, ◌⊎◌, inl, inr, List, [], ◌∷◌, refl, sym, ap, ap₂, ◌∙◌, ◌&&◌, eq-eqb, arith, true≢false, nat_eq, Ordering, Less, Equal, Greater}
+use Rattle.std.proofs.Common.{◌≡◌, ◌≢◌, ℕ, ◌<◌, ◌≤◌, ℤ, Bool, true, false, ◌⊎◌, inl, inr, List, [], ◌∷◌, refl, sym, ap, ap₂, ◌∙◌, ◌&&◌, eq-eqb, arith, true≢false, nat_eq, Ordering, Less, Equal, Greater}
 use Rattle.std.specs.Ordering.{nat_cmp, int_cmp, is_eq, is_gt, ordering_then, ordering_reverse}
+use Rattle.std.specs.Cmp.{IsTotalOrder}
 use Rattle.std.specs.Cmp.Lexicographic.{slice_cmp}
 use Rattle.std.proofs.lemmas.Cmp.{nat_cmp_total, int_cmp_total, nat_list_cmp_total, ranked, int_ranked}
 use Rattle.std.proofs.lemmas.Bool.{cases_lt}
-use Rattle.agg_terms.specs.Values.{Event, Value, Num, Bytes, Nil, Items, Pairs, Cell, Values, no_values, a_value, Entries, no_entries, an_entry, Table, no_rows, a_row, Tree, Empty, Word, Tuple, Listed, Rows, Events, Slots, Keyed, Trees, no_trees, a_tree, KeyedTrees, no_keys, a_key, values, values_list}
+use Rattle.agg_terms.specs.Values.{Event, Value, Num, Bytes, Nil, Items, Pairs, Cell, Values, no_values, a_value, Entries, no_entries, an_entry, Table, no_rows, a_row, Tree, Empty, Word, Tuple, Listed, Rows, Events, Slots, Keyed, Trees, no_trees, a_tree, KeyedTrees, no_keys, a_key, entries, values, values_list}
 use Rattle.agg_terms.specs.Order.{compare, compare_values, compare_entries, compare_table, compare_trees, compare_slots, compare_keyed, compare_rows, event_cmp, rank, tree_rank}
+use Rattle.agg_terms.specs.Laws.{entry_cmp}
 use Rattle.agg_terms.proofs.Sorting.{IsOrder}
 use Rattle.agg_terms.proofs.Lists.{values_back}
 
@@ -392,3 +394,37 @@ rows_order = record {
   trans = λ a b c e f. trans_values (values a) (values b) (values c) e f;
   same = λ a b e. sym (values_back a) ∙ ap values_list (same_values (values a) (values b) e) ∙ values_back b;
 }
+
+-- the order as its sentence has it
+pub compare_total : IsTotalOrder compare
+compare_total = record { antisymm = flip; trans = trans; congr = λ x y z e. ap (λ w. compare w z) (same x y e) }
+
+pub compare_lists : (a b : List Value) → compare_values (values a) (values b) ≡ slice_cmp compare a b
+unfolding compare
+compare_lists [] [] = refl
+compare_lists [] (w ∷ ws) = refl
+compare_lists (v ∷ vs) [] = refl
+compare_lists (v ∷ vs) (w ∷ ws) = ap (ordering_then (compare v w)) (compare_lists vs ws)
+
+then_assoc : (o p q : Ordering) → ordering_then o (ordering_then p q) ≡ ordering_then (ordering_then o p) q
+then_assoc Less p q = refl
+then_assoc Equal p q = refl
+then_assoc Greater p q = refl
+
+pub compare_maps : (a b : List (Value × Value)) → compare_entries (entries a) (entries b) ≡ slice_cmp entry_cmp a b
+unfolding compare
+compare_maps [] [] = refl
+compare_maps [] (w ∷ ws) = refl
+compare_maps (v ∷ vs) [] = refl
+compare_maps (v ∷ vs) (w ∷ ws) =
+    then_assoc (compare v.0 w.0) (compare v.1 w.1) (compare_entries (entries vs) (entries ws))
+    ∙ ap (ordering_then (entry_cmp v w)) (compare_maps vs ws)
+
+pub null_before : (v : Value) → v ≢ Nil → compare Nil v ≡ Less
+unfolding compare
+null_before Nil n = absurd (n refl)
+null_before (Num a) n = refl
+null_before (Bytes a) n = refl
+null_before (Items a) n = refl
+null_before (Pairs a) n = refl
+null_before (Cell a) n = refl

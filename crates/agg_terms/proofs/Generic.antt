@@ -3,10 +3,7 @@ use Rattle.std.proofs.Common.{◌≡◌, List, [], ◌∷◌, ◌++◌, map, ◌
 use Rattle.std.specs.Prelude.{flat_map}
 use Rattle.std.proofs.lemmas.List.Concat.{flat_map-append}
 use Rattle.agg_terms.specs.Lists.{built}
-
-abbrev pub Among : {X : Type 0} → X → List X → Type 0
-Among i [] = ⊥
-Among i (x ∷ xs) = (i ≡ x) ⊎ Among i xs
+pub use Rattle.agg_terms.specs.Lists.{Among}
 
 abbrev pub first_or : {X : Type 0} → X → List X → X
 first_or d [] = d

@@ -4,3 +4,5 @@ pub mod Lists
 pub mod Order
 pub mod Types
 pub mod Trees
+pub mod Fitting
+pub mod Laws
