@@ -1,22 +1,23 @@
 -- The tree of no feeds, and what is live.
-use Rattle.std.proofs.Common.{◌≡◌, ℕ, zero, suc, ℤ, Bool, true, false, List, [], ◌∷◌, ◌++◌, map, replicate, is_some, true≢false, Option, Some, None, refl, ap, ap₂}
+use Rattle.std.proofs.Common.{◌≡◌, ℕ, zero, suc, ℤ, Bool, true, false, not, List, [], ◌∷◌, ◌++◌, map, replicate, is_some, true≢false, Option, Some, None, refl, ap, ap₂}
 use Rattle.std.specs.Prelude.{flat_map, filter}
-use Rattle.agg_terms.specs.Values.{slots_tree, rows_tree}
+use Rattle.agg_terms.specs.Values.{slots_tree, rows_tree, list_value}
 use Rattle.agg_terms.specs.Order.{compare_rows, firsts}
 use Rattle.agg_terms.specs.Chains.{Leaf, Count, Sum, Min, Max, ArgMin, ArgMax, GroupArray, UniqExact, QuantileExact, WindowFunnel, SequenceMatch, Retention, GroupBit, Chain, Of, If, Array, MapOf, ForEach, OrNull, OrDefault, Distinct, State, Merge, Resample, Ty}
 use Rattle.agg_meaning.specs.Feeds.{Feed}
-use Rattle.agg_terms.specs.Lists.{places}
+use Rattle.agg_terms.specs.Lists.{places, is_empty}
 use Rattle.agg_meaning.specs.Picks.{when_met, in_interval}
 use Rattle.agg_terms.specs.Types.{intervals}
-use Rattle.agg_meaning.specs.Functions.{leaf_normal}
-use Rattle.agg_meaning.specs.Results.{leaf_blank}
-use Rattle.agg_meaning.specs.Feeds.{no_null}
+use Rattle.agg_meaning.specs.Functions.{leaf_normal, leaf_meaning}
+use Rattle.agg_meaning.specs.Results.{leaf_blank, leaf_result, default}
+use Rattle.agg_meaning.specs.Feeds.{no_null, opened}
 use Rattle.agg_terms.specs.Types.{inward}
 use Rattle.agg_meaning.specs.Results.{blank}
-use Rattle.agg_meaning.specs.Suffixes.{normal}
+use Rattle.agg_meaning.specs.Suffixes.{normal, fed, meaning}
 use Rattle.agg_meaning.specs.Feeds.{live}
 use Rattle.agg_terms.proofs.Sorting.{filter_twice}
 use Rattle.agg_terms.proofs.Generic.{map_same}
+use Rattle.agg_meaning.proofs.ChainLaws.{some_parts}
 
 leaf_of_none : (f : Leaf) (ts : List Ty) → leaf_normal f ts [] ≡ leaf_blank f
 leaf_of_none Count ts = refl
@@ -89,3 +90,33 @@ normal_live (Merge c) ts L = ap (normal (Merge c) ts) (filter_true L)
 normal_live (Resample s e p c) ts L =
     ap slots_tree
     (map_same _ _ (λ j. ap (normal c (inward (Resample s e p c) ts)) (flat_map-filter (in_interval s e p j) (λ f. is_some f.1) (interval_live s e p j) L)) (places 0 (intervals s e p)))
+
+pub fed_live : (c : Chain) (ts : List Ty) (L : List (Feed c)) → fed c ts (filter (live c) L) ≡ fed c ts L
+fed_live (Of f) ts L = ap (λ l. not (is_empty l)) (filter_twice no_null L)
+fed_live (If c) ts L = ap (fed c (inward (If c) ts)) (flat_map-filter when_met (λ f. is_some f.1) met_live L)
+fed_live (Array c) ts L = ap (fed (Array c) ts) (filter_true L)
+fed_live (MapOf c) ts L = ap (fed (MapOf c) ts) (filter_true L)
+fed_live (ForEach c) ts L = ap (fed (ForEach c) ts) (filter_true L)
+fed_live (OrNull c) ts L = ap (fed c ts) (filter_true L)
+fed_live (OrDefault c) ts L = ap (fed c ts) (filter_true L)
+fed_live (Distinct c) ts L = ap (λ l. fed c ts (map (opened c) (firsts compare_rows l))) (filter_twice no_null L)
+fed_live (State c) ts L = ap (fed c ts) (filter_true L)
+fed_live (Merge c) ts L = ap (fed (Merge c) ts) (filter_true L)
+fed_live (Resample s e p c) ts L =
+    some_parts _ _ _ _
+    (map_same _ _ (λ j. ap (fed c (inward (Resample s e p c) ts)) (flat_map-filter (in_interval s e p j) (λ f. is_some f.1) (interval_live s e p j) L)) (places 0 (intervals s e p)))
+
+pub meaning_live : (c : Chain) (ts : List Ty) (L : List (Feed c)) → meaning c ts (filter (live c) L) ≡ meaning c ts L
+meaning_live (Of f) ts L = ap (leaf_meaning f ts (default (leaf_result f ts))) (filter_twice no_null L)
+meaning_live (If c) ts L = ap (meaning c (inward (If c) ts)) (flat_map-filter when_met (λ f. is_some f.1) met_live L)
+meaning_live (Array c) ts L = ap (meaning (Array c) ts) (filter_true L)
+meaning_live (MapOf c) ts L = ap (meaning (MapOf c) ts) (filter_true L)
+meaning_live (ForEach c) ts L = ap (meaning (ForEach c) ts) (filter_true L)
+meaning_live (OrNull c) ts L = ap (meaning (OrNull c) ts) (filter_true L)
+meaning_live (OrDefault c) ts L = ap (meaning (OrDefault c) ts) (filter_true L)
+meaning_live (Distinct c) ts L = ap (λ l. meaning c ts (map (opened c) (firsts compare_rows l))) (filter_twice no_null L)
+meaning_live (State c) ts L = ap (meaning (State c) ts) (filter_true L)
+meaning_live (Merge c) ts L = ap (meaning (Merge c) ts) (filter_true L)
+meaning_live (Resample s e p c) ts L =
+    ap list_value
+    (map_same _ _ (λ j. ap (meaning c (inward (Resample s e p c) ts)) (flat_map-filter (in_interval s e p j) (λ f. is_some f.1) (interval_live s e p j) L)) (places 0 (intervals s e p)))

@@ -105,7 +105,7 @@ joins (Resample s e p c) ts A A' B B' a b =
     (fixed_joined (in_interval s e p) (normal c (inward (Resample s e p c) ts)) (joins c (inward (Resample s e p c) ts)) A A' B B' (places 0 (intervals s e p)) (slots_same _ _ a) (slots_same _ _ b))
 
 -- whether some index has a part that was fed
-some_parts : {I : Type 0} (p q : I → Bool) (is js : List I) → map p is ≡ map q js → some p is ≡ some q js
+pub some_parts : {I : Type 0} (p q : I → Bool) (is js : List I) → map p is ≡ map q js → some p is ≡ some q js
 some_parts p q is js e = sym (some-map p is) ∙ ap (some (λ b. b)) e ∙ some-map q js
 
 pub fed_same : (c : Chain) (ts : List Ty) → IsSound c → (A B : List (Feed c)) → normal c ts A ≡ normal c ts B → fed c ts A ≡ fed c ts B

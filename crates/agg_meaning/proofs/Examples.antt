@@ -1,114 +1,308 @@
--- The definitions at values.
-use Rattle.std.proofs.Common.{◌≡◌, ℕ, pos, negsuc, true, false, List, [], ◌∷◌, Some, None, refl}
+-- What the functions mean over small lists of rows.
+use Rattle.std.proofs.Common.{◌≡◌, ℕ, pos, negsuc, true, false, List, [], ◌∷◌, map, Some, None, refl}
 use Rattle.std.specs.Int.{int_wrap}
-use Rattle.agg_terms.specs.Values.{Value, Num, Bytes, Nil, Empty, Word, list_value, map_value, slots_tree, values_tree}
-use Rattle.agg_terms.specs.Chains.{Count, Sum, ArgMin, GroupArray, QuantileExact, WindowFunnel, SequenceMatch, Retention, GroupBit, And, Xor, Pattern, Cond, Any, Next, Time, AtOrAbove, BelowOrAt, Of, If, MapOf, ForEach, OrNull, Distinct, Merge, Resample, Ty, Whole, Signed, Str, Arr, MapTy, Nullable}
-use Rattle.agg_terms.specs.Order.{compare}
-use Rattle.agg_meaning.specs.Suffixes.{meaning, normal, unfolded}
-use Rattle.agg_meaning.specs.Feeds.{opened}
 use mir.Syntax.{w8}
+use Rattle.agg_terms.specs.Values.{Value, Num, Bytes, Nil, list_value}
+use Rattle.agg_terms.specs.Chains.{Chain, Count, Sum, Min, Max, ArgMin, ArgMax, GroupArray, UniqExact, QuantileExact, WindowFunnel, SequenceMatch, Retention, GroupBit, And, Or, Xor, Cond, Any, Next, Gap, Time, Above, At, AtOrAbove, BelowOrAt, Of, Ty, Whole, Signed, Str, Arr, Nullable}
+use Rattle.agg_terms.specs.Order.{compare}
+use Rattle.agg_meaning.specs.Feeds.{opened}
+use Rattle.agg_meaning.specs.Suffixes.{meaning}
 
-abbrev n : ℕ → Value
+abbrev pub n : ℕ → Value
 n k = Num (pos k)
 
-abbrev row : Value → List Value
-row v = v ∷ []
+-- the meaning of rows of arguments
+abbrev pub over : Chain → List Ty → List (List Value) → Value
+over c ts rows = meaning c ts (map (opened c) rows)
 
--- sum of 4 and 6
-sum_two : meaning (Of Sum) (Whole 64 ∷ []) (row (n 4) ∷ row (n 6) ∷ []) ≡ n 10
-sum_two = refl
+-- over no rows
+count_none : over (Of Count) [] [] ≡ n 0
+unfolding compare
+count_none = refl
 
-sum_around : meaning (Of Sum) (Whole 64 ∷ []) (row (n 18446744073709551615) ∷ row (n 2) ∷ []) ≡ n 1
-sum_around = refl
+sum_none : over (Of Sum) (Signed w8 ∷ []) [] ≡ n 0
+unfolding compare
+sum_none = refl
 
-sum_null : meaning (Of Sum) (Nullable (Whole 8) ∷ []) (row Nil ∷ []) ≡ Nil
+min_none : over (Of Min) (Whole 8 ∷ []) [] ≡ n 0
+unfolding compare
+min_none = refl
+
+max_none : over (Of Max) (Str ∷ []) [] ≡ Bytes []
+unfolding compare
+max_none = refl
+
+arg_min_none : over (Of ArgMin) (Str ∷ Whole 8 ∷ []) [] ≡ Bytes []
+unfolding compare
+arg_min_none = refl
+
+arg_max_none : over (Of ArgMax) (Whole 8 ∷ Str ∷ []) [] ≡ n 0
+unfolding compare
+arg_max_none = refl
+
+group_array_none : over (Of (GroupArray None)) (Whole 8 ∷ []) [] ≡ list_value []
+unfolding compare
+group_array_none = refl
+
+uniq_none : over (Of UniqExact) (Whole 8 ∷ Str ∷ []) [] ≡ n 0
+unfolding compare
+uniq_none = refl
+
+quantile_none : over (Of (QuantileExact 500000000)) (Whole 8 ∷ []) [] ≡ n 0
+unfolding compare
+quantile_none = refl
+
+funnel_none : over (Of (WindowFunnel 10 false)) (Whole 32 ∷ Whole 8 ∷ []) [] ≡ n 0
+unfolding compare
+funnel_none = refl
+
+match_none : over (Of (SequenceMatch (record { items = Cond 1 ∷ Cond 2 ∷ []; links = Next ∷ [] }))) (Whole 32 ∷ Whole 8 ∷ Whole 8 ∷ []) [] ≡ n 0
+unfolding compare
+match_none = refl
+
+retention_none : over (Of Retention) (Whole 8 ∷ Whole 8 ∷ []) [] ≡ list_value (n 0 ∷ n 0 ∷ [])
+unfolding compare
+retention_none = refl
+
+bit_and_none : over (Of (GroupBit And)) (Whole 8 ∷ []) [] ≡ n 255
+unfolding compare
+bit_and_none = refl
+
+bit_and_none_signed : over (Of (GroupBit And)) (Signed w8 ∷ []) [] ≡ Num (negsuc 0)
+unfolding compare
+bit_and_none_signed = refl
+
+bit_or_none : over (Of (GroupBit Or)) (Whole 16 ∷ []) [] ≡ n 0
+unfolding compare
+bit_or_none = refl
+
+bit_xor_none : over (Of (GroupBit Xor)) (Whole 16 ∷ []) [] ≡ n 0
+unfolding compare
+bit_xor_none = refl
+
+-- over rows of NULL alone
+count_null : over (Of Count) (Nullable (Whole 8) ∷ []) ((Nil ∷ []) ∷ (Nil ∷ []) ∷ []) ≡ n 0
+unfolding compare
+count_null = refl
+
+sum_null : over (Of Sum) (Nullable (Whole 8) ∷ []) ((Nil ∷ []) ∷ (Nil ∷ []) ∷ []) ≡ Nil
+unfolding compare
 sum_null = refl
 
-sum_below : meaning (Of Sum) (Signed w8 ∷ []) (row (Num (negsuc 0)) ∷ row (Num (negsuc 4)) ∷ []) ≡ Num (negsuc 5)
+min_null : over (Of Min) (Nullable Str ∷ []) ((Nil ∷ []) ∷ []) ≡ Nil
+unfolding compare
+min_null = refl
+
+max_null : over (Of Max) (Nullable (Whole 8) ∷ []) ((Nil ∷ []) ∷ []) ≡ Nil
+unfolding compare
+max_null = refl
+
+-- a NULL in either argument drops the row, and a Nullable type of either gives NULL
+arg_min_null : over (Of ArgMin) (Str ∷ Nullable (Whole 8) ∷ []) ((Bytes (97 ∷ []) ∷ Nil ∷ []) ∷ []) ≡ Nil
+unfolding compare
+arg_min_null = refl
+
+arg_max_null : over (Of ArgMax) (Nullable (Whole 8) ∷ Str ∷ []) ((Nil ∷ Bytes (97 ∷ []) ∷ []) ∷ []) ≡ Nil
+unfolding compare
+arg_max_null = refl
+
+group_array_null : over (Of (GroupArray None)) (Nullable (Whole 8) ∷ []) ((Nil ∷ []) ∷ (Nil ∷ []) ∷ []) ≡ list_value []
+unfolding compare
+group_array_null = refl
+
+uniq_null : over (Of UniqExact) (Nullable (Whole 8) ∷ Str ∷ []) ((Nil ∷ Bytes (97 ∷ []) ∷ []) ∷ []) ≡ n 0
+unfolding compare
+uniq_null = refl
+
+quantile_null : over (Of (QuantileExact 500000000)) (Nullable (Whole 8) ∷ []) ((Nil ∷ []) ∷ []) ≡ Nil
+unfolding compare
+quantile_null = refl
+
+funnel_null : over (Of (WindowFunnel 10 false)) (Whole 32 ∷ Nullable (Whole 8) ∷ []) ((n 5 ∷ Nil ∷ []) ∷ []) ≡ n 0
+unfolding compare
+funnel_null = refl
+
+match_null : over (Of (SequenceMatch (record { items = Cond 1 ∷ Cond 2 ∷ []; links = Next ∷ [] }))) (Nullable (Whole 32) ∷ Whole 8 ∷ Whole 8 ∷ []) ((Nil ∷ n 1 ∷ n 0 ∷ []) ∷ (n 2 ∷ n 0 ∷ n 1 ∷ []) ∷ []) ≡ n 0
+unfolding compare
+match_null = refl
+
+retention_null : over (Of Retention) (Nullable (Whole 8) ∷ Whole 8 ∷ []) ((Nil ∷ n 1 ∷ []) ∷ []) ≡ list_value (n 0 ∷ n 0 ∷ [])
+unfolding compare
+retention_null = refl
+
+bit_and_null : over (Of (GroupBit And)) (Nullable (Whole 8) ∷ []) ((Nil ∷ []) ∷ []) ≡ Nil
+unfolding compare
+bit_and_null = refl
+
+bit_or_null : over (Of (GroupBit Or)) (Nullable (Whole 8) ∷ []) ((Nil ∷ []) ∷ []) ≡ Nil
+unfolding compare
+bit_or_null = refl
+
+bit_xor_null : over (Of (GroupBit Xor)) (Nullable (Whole 8) ∷ []) ((Nil ∷ []) ∷ []) ≡ Nil
+unfolding compare
+bit_xor_null = refl
+
+-- NULL beside a number
+sum_beside_null : over (Of Sum) (Nullable (Whole 8) ∷ []) ((Nil ∷ []) ∷ (n 7 ∷ []) ∷ []) ≡ n 7
+unfolding compare
+sum_beside_null = refl
+
+-- a NULL inside an array is no NULL argument
+array_null_counts : over (Of Count) (Arr (Nullable (Whole 8)) ∷ []) ((list_value (Nil ∷ []) ∷ []) ∷ []) ≡ n 1
+unfolding compare
+array_null_counts = refl
+
+-- numbers
+sum_wraps : over (Of Sum) (Whole 64 ∷ []) ((n 18446744073709551615 ∷ []) ∷ (n 2 ∷ []) ∷ []) ≡ n 1
+unfolding compare
+sum_wraps = refl
+
+sum_below : over (Of Sum) (Signed w8 ∷ []) ((Num (negsuc 0) ∷ []) ∷ (Num (negsuc 4) ∷ []) ∷ []) ≡ Num (negsuc 5)
 unfolding int_wrap
 sum_below = refl
 
-quantile_none : meaning (Of (QuantileExact 500000000)) (Whole 8 ∷ []) [] ≡ n 0
-quantile_none = refl
-
-quantile_some : meaning (Of (QuantileExact 500000000)) (Whole 8 ∷ []) (row (n 4) ∷ row (n 1) ∷ row (n 3) ∷ row (n 1) ∷ []) ≡ n 3
+min_text : over (Of Min) (Str ∷ []) ((Bytes (98 ∷ []) ∷ []) ∷ (Bytes (97 ∷ 98 ∷ []) ∷ []) ∷ (Bytes (97 ∷ 98 ∷ 99 ∷ []) ∷ []) ∷ []) ≡ Bytes (97 ∷ 98 ∷ [])
 unfolding compare
-quantile_some = refl
+min_text = refl
 
-group_two : meaning (Of (GroupArray (Some 2))) (Whole 8 ∷ []) (row (n 1) ∷ row (n 2) ∷ row (n 3) ∷ []) ≡ list_value (n 1 ∷ n 2 ∷ [])
-group_two = refl
-
-arg_min : meaning (Of ArgMin) (Str ∷ Whole 8 ∷ []) ((Bytes (97 ∷ []) ∷ n 2 ∷ []) ∷ (Bytes (98 ∷ []) ∷ n 1 ∷ []) ∷ (Bytes (99 ∷ []) ∷ n 1 ∷ []) ∷ []) ≡ Bytes (98 ∷ [])
+max_number : over (Of Max) (Signed w8 ∷ []) ((Num (negsuc 1) ∷ []) ∷ (n 3 ∷ []) ∷ (Num (negsuc 6) ∷ []) ∷ []) ≡ n 3
 unfolding compare
-arg_min = refl
+max_number = refl
 
--- the opened rows [1,2] and [3] of ForEach
-sum_each : meaning (ForEach (Of Sum)) (Arr (Whole 8) ∷ []) (opened (ForEach (Of Sum)) (row (list_value (n 1 ∷ n 2 ∷ []))) ∷ opened (ForEach (Of Sum)) (row (list_value (n 3 ∷ []))) ∷ []) ≡ list_value (n 4 ∷ n 2 ∷ [])
-sum_each = refl
-
--- a tree that no rows have, but feeds with holes
-count_each : normal (ForEach (Of Count)) (Arr (Whole 8) ∷ []) (unfolded (ForEach (Of Count)) (Arr (Whole 8) ∷ []) (slots_tree (Empty ∷ Word (pos 2) ∷ []))) ≡ slots_tree (Empty ∷ Word (pos 2) ∷ [])
-count_each = refl
-
-count_if_none : meaning (OrNull (If (Of Count))) (Whole 8 ∷ []) (([], Some 0) ∷ ([], None) ∷ []) ≡ Nil
-count_if_none = refl
-
-resampled : normal (Resample (pos 0) (pos 4) 2 (Of Count)) (Whole 8 ∷ []) (([], Some (pos 2)) ∷ []) ≡ slots_tree (Empty ∷ Word (pos 1) ∷ [])
-resampled = refl
-
-distinct_sum : meaning (Distinct (Of Sum)) (Whole 8 ∷ []) (row (n 4) ∷ row (n 4) ∷ row (n 1) ∷ []) ≡ n 5
+-- the first row wins a tie
+arg_min_first : over (Of ArgMin) (Str ∷ Whole 8 ∷ []) ((Bytes (97 ∷ []) ∷ n 2 ∷ []) ∷ (Bytes (98 ∷ []) ∷ n 1 ∷ []) ∷ (Bytes (99 ∷ []) ∷ n 1 ∷ []) ∷ (Bytes (100 ∷ []) ∷ n 2 ∷ []) ∷ []) ≡ Bytes (98 ∷ [])
 unfolding compare
-distinct_sum = refl
+arg_min_first = refl
 
-map_sum : meaning (MapOf (Of Sum)) (MapTy (Whole 8) (Whole 8) ∷ []) (opened (MapOf (Of Sum)) (row (map_value ((n 2, n 5) ∷ (n 1, n 1) ∷ (n 2, n 7) ∷ []))) ∷ []) ≡ map_value ((n 1, n 1) ∷ (n 2, n 12) ∷ [])
+arg_max_first : over (Of ArgMax) (Str ∷ Whole 8 ∷ []) ((Bytes (97 ∷ []) ∷ n 2 ∷ []) ∷ (Bytes (98 ∷ []) ∷ n 1 ∷ []) ∷ (Bytes (99 ∷ []) ∷ n 1 ∷ []) ∷ (Bytes (100 ∷ []) ∷ n 2 ∷ []) ∷ []) ≡ Bytes (97 ∷ [])
 unfolding compare
-map_sum = refl
+arg_max_first = refl
 
--- (1,{1}), (3,{1}), (6,{2})
-funnel_four : meaning (Of (WindowFunnel 4 false)) (Whole 8 ∷ Whole 8 ∷ Whole 8 ∷ []) ((n 1 ∷ n 1 ∷ n 0 ∷ []) ∷ (n 6 ∷ n 0 ∷ n 1 ∷ []) ∷ (n 3 ∷ n 1 ∷ n 0 ∷ []) ∷ []) ≡ n 2
-funnel_four = refl
+group_array_two : over (Of (GroupArray (Some 2))) (Whole 8 ∷ []) ((n 3 ∷ []) ∷ (n 1 ∷ []) ∷ (n 2 ∷ []) ∷ []) ≡ list_value (n 3 ∷ n 1 ∷ [])
+unfolding compare
+group_array_two = refl
 
-funnel_two : meaning (Of (WindowFunnel 2 false)) (Whole 8 ∷ Whole 8 ∷ Whole 8 ∷ []) ((n 1 ∷ n 1 ∷ n 0 ∷ []) ∷ (n 6 ∷ n 0 ∷ n 1 ∷ []) ∷ (n 3 ∷ n 1 ∷ n 0 ∷ []) ∷ []) ≡ n 1
-funnel_two = refl
+uniq_tuples : over (Of UniqExact) (Whole 8 ∷ Str ∷ []) ((n 1 ∷ Bytes (97 ∷ []) ∷ []) ∷ (n 2 ∷ Bytes (97 ∷ []) ∷ []) ∷ (n 1 ∷ Bytes (97 ∷ []) ∷ []) ∷ []) ≡ n 2
+unfolding compare
+uniq_tuples = refl
 
-funnel_strict : meaning (Of (WindowFunnel 0 true)) (Whole 8 ∷ Whole 8 ∷ Whole 8 ∷ []) ((n 6 ∷ n 1 ∷ n 0 ∷ []) ∷ (n 6 ∷ n 0 ∷ n 1 ∷ []) ∷ []) ≡ n 1
+-- the place floor(level * 4) of 1, 2, 3, 4
+quantile_half : over (Of (QuantileExact 500000000)) (Whole 8 ∷ []) ((n 4 ∷ []) ∷ (n 1 ∷ []) ∷ (n 3 ∷ []) ∷ (n 2 ∷ []) ∷ []) ≡ n 3
+unfolding compare
+quantile_half = refl
+
+quantile_last : over (Of (QuantileExact 1000000000)) (Whole 8 ∷ []) ((n 4 ∷ []) ∷ (n 1 ∷ []) ∷ (n 3 ∷ []) ∷ (n 2 ∷ []) ∷ []) ≡ n 4
+unfolding compare
+quantile_last = refl
+
+quantile_first : over (Of (QuantileExact 1)) (Whole 8 ∷ []) ((n 4 ∷ []) ∷ (n 1 ∷ []) ∷ (n 3 ∷ []) ∷ (n 2 ∷ []) ∷ []) ≡ n 1
+unfolding compare
+quantile_first = refl
+
+quantile_low : over (Of (QuantileExact 749999999)) (Whole 8 ∷ []) ((n 4 ∷ []) ∷ (n 1 ∷ []) ∷ (n 3 ∷ []) ∷ (n 2 ∷ []) ∷ []) ≡ n 3
+unfolding compare
+quantile_low = refl
+
+quantile_high : over (Of (QuantileExact 750000000)) (Whole 8 ∷ []) ((n 4 ∷ []) ∷ (n 1 ∷ []) ∷ (n 3 ∷ []) ∷ (n 2 ∷ []) ∷ []) ≡ n 4
+unfolding compare
+quantile_high = refl
+
+quantile_zero : over (Of (QuantileExact 0)) (Whole 8 ∷ []) ((n 4 ∷ []) ∷ (n 1 ∷ []) ∷ (n 3 ∷ []) ∷ (n 2 ∷ []) ∷ []) ≡ n 1
+unfolding compare
+quantile_zero = refl
+
+bit_and_two : over (Of (GroupBit And)) (Whole 8 ∷ []) ((n 12 ∷ []) ∷ (n 10 ∷ []) ∷ []) ≡ n 8
+unfolding compare
+bit_and_two = refl
+
+bit_or_two : over (Of (GroupBit Or)) (Whole 8 ∷ []) ((n 12 ∷ []) ∷ (n 10 ∷ []) ∷ []) ≡ n 14
+unfolding compare
+bit_or_two = refl
+
+bit_xor_signed : over (Of (GroupBit Xor)) (Signed w8 ∷ []) ((Num (negsuc 0) ∷ []) ∷ (n 1 ∷ []) ∷ []) ≡ Num (negsuc 1)
+unfolding compare
+bit_xor_signed = refl
+
+-- a funnel: three steps within the window, to its very end
+funnel_three : over (Of (WindowFunnel 10 false)) (Whole 32 ∷ Whole 8 ∷ Whole 8 ∷ Whole 8 ∷ []) ((n 100 ∷ n 1 ∷ n 0 ∷ n 0 ∷ []) ∷ (n 105 ∷ n 0 ∷ n 1 ∷ n 0 ∷ []) ∷ (n 110 ∷ n 0 ∷ n 0 ∷ n 1 ∷ []) ∷ []) ≡ n 3
+unfolding compare
+funnel_three = refl
+
+funnel_past_window : over (Of (WindowFunnel 10 false)) (Whole 32 ∷ Whole 8 ∷ Whole 8 ∷ Whole 8 ∷ []) ((n 100 ∷ n 1 ∷ n 0 ∷ n 0 ∷ []) ∷ (n 105 ∷ n 0 ∷ n 1 ∷ n 0 ∷ []) ∷ (n 111 ∷ n 0 ∷ n 0 ∷ n 1 ∷ []) ∷ []) ≡ n 2
+unfolding compare
+funnel_past_window = refl
+
+-- at equal times the order of the rows decides
+funnel_row_order : over (Of (WindowFunnel 10 false)) (Whole 32 ∷ Whole 8 ∷ Whole 8 ∷ Whole 8 ∷ []) ((n 5 ∷ n 0 ∷ n 1 ∷ n 0 ∷ []) ∷ (n 5 ∷ n 1 ∷ n 0 ∷ n 0 ∷ []) ∷ []) ≡ n 1
+unfolding compare
+funnel_row_order = refl
+
+funnel_row_order_kept : over (Of (WindowFunnel 10 false)) (Whole 32 ∷ Whole 8 ∷ Whole 8 ∷ []) ((n 5 ∷ n 1 ∷ n 0 ∷ []) ∷ (n 5 ∷ n 0 ∷ n 1 ∷ []) ∷ []) ≡ n 2
+unfolding compare
+funnel_row_order_kept = refl
+
+-- with rising times an earlier event of step 1 serves
+funnel_strict : over (Of (WindowFunnel 5 true)) (Whole 32 ∷ Whole 8 ∷ Whole 8 ∷ []) ((n 1 ∷ n 1 ∷ n 0 ∷ []) ∷ (n 2 ∷ n 1 ∷ n 0 ∷ []) ∷ (n 2 ∷ n 0 ∷ n 1 ∷ []) ∷ []) ≡ n 2
+unfolding compare
 funnel_strict = refl
 
--- (?1).(?2) over (1,{1}), (2,{3}), (3,{2})
-matched : meaning (Of (SequenceMatch (record { items = Cond 1 ∷ Any ∷ Cond 2 ∷ []; links = Next ∷ Next ∷ [] }))) (Whole 8 ∷ Whole 8 ∷ Whole 8 ∷ Whole 8 ∷ []) ((n 1 ∷ n 1 ∷ n 0 ∷ n 0 ∷ []) ∷ (n 2 ∷ n 0 ∷ n 0 ∷ n 1 ∷ []) ∷ (n 3 ∷ n 0 ∷ n 1 ∷ n 0 ∷ []) ∷ []) ≡ n 1
-matched = refl
+funnel_strict_equal : over (Of (WindowFunnel 5 true)) (Whole 32 ∷ Whole 8 ∷ Whole 8 ∷ []) ((n 2 ∷ n 1 ∷ n 0 ∷ []) ∷ (n 2 ∷ n 0 ∷ n 1 ∷ []) ∷ []) ≡ n 1
+unfolding compare
+funnel_strict_equal = refl
 
--- (?1)(?t<=1)(?2)(?t>=5)(?3) over (0,{1}), (1,{2}), (5,{3}) and with (6,{3})
-abbrev timed : Pattern
-timed = record { items = Cond 1 ∷ Cond 2 ∷ Cond 3 ∷ []; links = Time BelowOrAt 1 ∷ Time AtOrAbove 5 ∷ [] }
+-- one event serves one step
+funnel_one_step : over (Of (WindowFunnel 5 false)) (Whole 32 ∷ Whole 8 ∷ Whole 8 ∷ []) ((n 1 ∷ n 1 ∷ n 1 ∷ []) ∷ []) ≡ n 1
+unfolding compare
+funnel_one_step = refl
 
-abbrev four : List Ty
-four = Whole 8 ∷ Whole 8 ∷ Whole 8 ∷ Whole 8 ∷ []
+-- a later start reaches further
+funnel_later_start : over (Of (WindowFunnel 4 false)) (Whole 32 ∷ Whole 8 ∷ Whole 8 ∷ []) ((n 1 ∷ n 1 ∷ n 0 ∷ []) ∷ (n 6 ∷ n 0 ∷ n 1 ∷ []) ∷ (n 3 ∷ n 1 ∷ n 0 ∷ []) ∷ []) ≡ n 2
+unfolding compare
+funnel_later_start = refl
 
-timed_no : meaning (Of (SequenceMatch timed)) four ((n 0 ∷ n 1 ∷ n 0 ∷ n 0 ∷ []) ∷ (n 1 ∷ n 0 ∷ n 1 ∷ n 0 ∷ []) ∷ (n 5 ∷ n 0 ∷ n 0 ∷ n 1 ∷ []) ∷ []) ≡ n 0
-timed_no = refl
+-- an event is a row that meets a condition of the call
+match_past_no_event : over (Of (SequenceMatch (record { items = Cond 1 ∷ Cond 2 ∷ []; links = Next ∷ [] }))) (Whole 32 ∷ Whole 8 ∷ Whole 8 ∷ []) ((n 1 ∷ n 1 ∷ n 0 ∷ []) ∷ (n 2 ∷ n 0 ∷ n 0 ∷ []) ∷ (n 3 ∷ n 0 ∷ n 1 ∷ []) ∷ []) ≡ n 1
+unfolding compare
+match_past_no_event = refl
 
-timed_yes : meaning (Of (SequenceMatch timed)) four ((n 0 ∷ n 1 ∷ n 0 ∷ n 0 ∷ []) ∷ (n 1 ∷ n 0 ∷ n 1 ∷ n 0 ∷ []) ∷ (n 6 ∷ n 0 ∷ n 0 ∷ n 1 ∷ []) ∷ []) ≡ n 1
-timed_yes = refl
+match_other_event : over (Of (SequenceMatch (record { items = Cond 1 ∷ Cond 2 ∷ []; links = Next ∷ [] }))) (Whole 32 ∷ Whole 8 ∷ Whole 8 ∷ Whole 8 ∷ []) ((n 1 ∷ n 1 ∷ n 0 ∷ n 0 ∷ []) ∷ (n 2 ∷ n 0 ∷ n 0 ∷ n 1 ∷ []) ∷ (n 3 ∷ n 0 ∷ n 1 ∷ n 0 ∷ []) ∷ []) ≡ n 0
+unfolding compare
+match_other_event = refl
 
-retained : meaning (Of Retention) (Whole 8 ∷ Whole 8 ∷ Whole 8 ∷ []) ((n 1 ∷ n 0 ∷ n 0 ∷ []) ∷ (n 0 ∷ n 0 ∷ n 1 ∷ []) ∷ []) ≡ list_value (n 1 ∷ n 0 ∷ n 1 ∷ [])
-retained = refl
+match_gap : over (Of (SequenceMatch (record { items = Cond 1 ∷ Cond 2 ∷ []; links = Gap ∷ [] }))) (Whole 32 ∷ Whole 8 ∷ Whole 8 ∷ Whole 8 ∷ []) ((n 1 ∷ n 1 ∷ n 0 ∷ n 0 ∷ []) ∷ (n 2 ∷ n 0 ∷ n 0 ∷ n 1 ∷ []) ∷ (n 3 ∷ n 0 ∷ n 1 ∷ n 0 ∷ []) ∷ []) ≡ n 1
+unfolding compare
+match_gap = refl
 
-retained_none : meaning (Of Retention) (Whole 8 ∷ Whole 8 ∷ []) [] ≡ list_value (n 0 ∷ n 0 ∷ [])
-retained_none = refl
+match_any : over (Of (SequenceMatch (record { items = Cond 1 ∷ Any ∷ Cond 2 ∷ []; links = Next ∷ Next ∷ [] }))) (Whole 32 ∷ Whole 8 ∷ Whole 8 ∷ Whole 8 ∷ []) ((n 1 ∷ n 1 ∷ n 0 ∷ n 0 ∷ []) ∷ (n 2 ∷ n 0 ∷ n 0 ∷ n 1 ∷ []) ∷ (n 3 ∷ n 0 ∷ n 1 ∷ n 0 ∷ []) ∷ []) ≡ n 1
+unfolding compare
+match_any = refl
 
--- a merge of states
-merged : meaning (Merge (Of (GroupArray (Some 2)))) [] (values_tree (n 1 ∷ []) ∷ values_tree (n 2 ∷ n 3 ∷ []) ∷ []) ≡ list_value (n 1 ∷ n 2 ∷ [])
-merged = refl
+match_time : over (Of (SequenceMatch (record { items = Cond 1 ∷ Cond 2 ∷ []; links = Time Above 1800 ∷ [] }))) (Whole 32 ∷ Whole 8 ∷ Whole 8 ∷ []) ((n 0 ∷ n 1 ∷ n 0 ∷ []) ∷ (n 100 ∷ n 0 ∷ n 1 ∷ []) ∷ (n 2000 ∷ n 0 ∷ n 1 ∷ []) ∷ []) ≡ n 1
+unfolding compare
+match_time = refl
 
-bits_and : meaning (Of (GroupBit And)) (Whole 8 ∷ []) (row (n 12) ∷ row (n 10) ∷ []) ≡ n 8
-bits_and = refl
+match_time_no : over (Of (SequenceMatch (record { items = Cond 1 ∷ Cond 2 ∷ []; links = Time At 50 ∷ [] }))) (Whole 32 ∷ Whole 8 ∷ Whole 8 ∷ []) ((n 0 ∷ n 1 ∷ n 0 ∷ []) ∷ (n 100 ∷ n 0 ∷ n 1 ∷ []) ∷ (n 2000 ∷ n 0 ∷ n 1 ∷ []) ∷ []) ≡ n 0
+unfolding compare
+match_time_no = refl
 
-bits_none : meaning (Of (GroupBit And)) (Whole 8 ∷ []) [] ≡ n 255
-bits_none = refl
+-- a time is measured from the item before, not from the first
+match_neighbours : over (Of (SequenceMatch (record { items = Cond 1 ∷ Cond 2 ∷ Cond 3 ∷ []; links = Time BelowOrAt 1 ∷ Time AtOrAbove 5 ∷ [] }))) (Whole 32 ∷ Whole 8 ∷ Whole 8 ∷ Whole 8 ∷ []) ((n 0 ∷ n 1 ∷ n 0 ∷ n 0 ∷ []) ∷ (n 1 ∷ n 0 ∷ n 1 ∷ n 0 ∷ []) ∷ (n 5 ∷ n 0 ∷ n 0 ∷ n 1 ∷ []) ∷ []) ≡ n 0
+unfolding compare
+match_neighbours = refl
 
-bits_signed : meaning (Of (GroupBit And)) (Signed w8 ∷ []) [] ≡ Num (negsuc 0)
-bits_signed = refl
+match_neighbours_yes : over (Of (SequenceMatch (record { items = Cond 1 ∷ Cond 2 ∷ Cond 3 ∷ []; links = Time BelowOrAt 1 ∷ Time AtOrAbove 5 ∷ [] }))) (Whole 32 ∷ Whole 8 ∷ Whole 8 ∷ Whole 8 ∷ []) ((n 0 ∷ n 1 ∷ n 0 ∷ n 0 ∷ []) ∷ (n 1 ∷ n 0 ∷ n 1 ∷ n 0 ∷ []) ∷ (n 6 ∷ n 0 ∷ n 0 ∷ n 1 ∷ []) ∷ []) ≡ n 1
+unfolding compare
+match_neighbours_yes = refl
 
-bits_xor : meaning (Of (GroupBit Xor)) (Signed w8 ∷ []) (row (Num (negsuc 0)) ∷ row (n 1) ∷ []) ≡ Num (negsuc 1)
-bits_xor = refl
+match_neighbours_far : over (Of (SequenceMatch (record { items = Cond 1 ∷ Cond 2 ∷ Cond 3 ∷ []; links = Time BelowOrAt 5 ∷ Time BelowOrAt 5 ∷ [] }))) (Whole 32 ∷ Whole 8 ∷ Whole 8 ∷ Whole 8 ∷ []) ((n 0 ∷ n 1 ∷ n 0 ∷ n 0 ∷ []) ∷ (n 5 ∷ n 0 ∷ n 1 ∷ n 0 ∷ []) ∷ (n 10 ∷ n 0 ∷ n 0 ∷ n 1 ∷ []) ∷ []) ≡ n 1
+unfolding compare
+match_neighbours_far = refl
+
+-- the first condition and another, each met in some row
+retention_first : over (Of Retention) (Whole 8 ∷ Whole 8 ∷ Whole 8 ∷ []) ((n 1 ∷ n 0 ∷ n 0 ∷ []) ∷ (n 0 ∷ n 0 ∷ n 1 ∷ []) ∷ []) ≡ list_value (n 1 ∷ n 0 ∷ n 1 ∷ [])
+unfolding compare
+retention_first = refl
+
+retention_without_first : over (Of Retention) (Whole 8 ∷ Whole 8 ∷ []) ((n 0 ∷ n 1 ∷ []) ∷ []) ≡ list_value (n 0 ∷ n 0 ∷ [])
+unfolding compare
+retention_without_first = refl

@@ -190,7 +190,7 @@ formed (Resample a b p c) ts g s L k = (
 )
 
 -- the laws
-again : (c : Chain) (ts : List Ty) → IsSound c → IsTyped c ts → (L : List (Feed c)) → Each (IsFeed c ts) L → normal c ts (unfolded c ts (normal c ts L)) ≡ normal c ts L
+pub again : (c : Chain) (ts : List Ty) → IsSound c → IsTyped c ts → (L : List (Feed c)) → Each (IsFeed c ts) L → normal c ts (unfolded c ts (normal c ts L)) ≡ normal c ts L
 again c ts s t L k = back c ts s (normal c ts L) (formed c ts s t L k)
 
 pub law_meaning : (c : Chain) (ts : List Ty) → IsSound c → IsTyped c ts → (L : List (Feed c)) → Each (IsFeed c ts) L → meaning c ts (unfolded c ts (normal c ts L)) ≡ meaning c ts L

@@ -1,6 +1,5 @@
 -- The laws of the functions: equal normal forms mean the same, and stay equal where the same is added.
-use Rattle.std.proofs.Common.{◌≡◌, ℕ, zero, suc, ◌+◌, ◌%◌, ◌^◌, ◌<◌, ℤ, pos, negsuc, unsigned_abs, ◌+ℤ◌, nat_abs, Bool, true, false, cond, ◌&&◌, List, [], ◌∷◌, ◌++◌, map, length, length-append, take, Option, Some, None, refl, sym, ap, ap₂, ◌∙◌, subst, arith, true≢false, is_none, Ordering, Less, Equal, Greater}
-use Rattle.std.specs.Ordering.{is_lt, is_gt, ordering_reverse}
+use Rattle.std.proofs.Common.{◌≡◌, ℕ, zero, suc, ◌+◌, ◌%◌, ◌^◌, ◌<◌, ℤ, pos, negsuc, unsigned_abs, ◌+ℤ◌, nat_abs, Bool, true, false, cond, ◌&&◌, List, [], ◌∷◌, ◌++◌, map, length, length-append, take, Option, Some, None, refl, sym, ap, ap₂, ◌∙◌, arith, is_none}
 use Rattle.std.specs.Int.{int_wrap, int_rem_euclid, cast_signed, cast_unsigned}
 use Rattle.std.proofs.lemmas.Int.{int_wrap-add_left, int_wrap-add_right, of_z-to_z}
 use Rattle.std.proofs.lemmas.List.{map-append, length-map}
@@ -19,15 +18,16 @@ use Rattle.agg_terms.specs.Chains.{Leaf, Count, Sum, Min, Max, ArgMin, ArgMax, G
 use Rattle.agg_terms.specs.Lists.{is_empty}
 use Rattle.agg_terms.specs.Order.{compare, compare_rows, ascending, different, best, into_sorted, into_set}
 use Rattle.agg_terms.specs.Types.{conditions, is_signed, first_type}
-use Rattle.agg_meaning.specs.Functions.{arg, number, unless_none, wrapped, sum_of, total, counted, lower, higher, lower_second, higher_second, arg_val, the_arg, at_most, leaf_normal, leaf_meaning, or_nothing, option_first, at, quantile_place}
+use Rattle.agg_meaning.specs.Functions.{arg, number, unless_none, wrapped, sum_of, total, counted, lower, higher, lower_second, higher_second, arg_val, the_arg, at_most, leaf_normal, leaf_meaning, or_nothing, option_first, quantile_place}
 use Rattle.agg_terms.specs.Trees.{one_tree, pair_tree}
 use Rattle.agg_meaning.specs.Functions.{residue, bits_in, bit_tree, bit_op, bit_value, folded, bits_of_rows}
 use Rattle.agg_terms.specs.Lists.{Each}
 use Rattle.agg_meaning.specs.Feeds.{IfHere}
 use Rattle.agg_meaning.proofs.BitLists.{residue_lt, bits_back, folded_lt, folded_joins}
 use Rattle.agg_meaning.specs.Lawful.{TakesSome}
-use Rattle.agg_terms.proofs.Sorting.{IsRanking, IsOrder, IsBeating, best_joins, sorted_steady, ranking, set_steady, steady_joins, take_joins, length-ascending, into_set-filled, down}
+use Rattle.agg_terms.proofs.Sorting.{IsRanking, IsBeating, best_joins, sorted_steady, ranking, set_steady, steady_joins, take_joins, length-ascending, into_set-filled}
 use Rattle.agg_terms.proofs.Comparing.{compare_order, rows_order}
+use Rattle.agg_meaning.proofs.Better.{lower_beats, higher_beats, lower_second_beats, higher_second_beats}
 use Rattle.agg_terms.proofs.Lists.{values_back, table_back}
 
 -- words
@@ -182,60 +182,6 @@ best_mapped beats laws f A A' B B' a b =
 at_most_joins : (most : Option ℕ) (A A' B B' : List Value) → at_most most A ≡ at_most most A' → at_most most B ≡ at_most most B' → at_most most (A ++ B) ≡ at_most most (A' ++ B')
 at_most_joins None A A' B B' a b = ap₂ ◌++◌ a b
 at_most_joins (Some n) A A' B B' a b = take_joins n A A' B B' a b
-
--- which of two is better
-lt_less : (o : Ordering) → is_lt o ≡ true → o ≡ Less
-lt_less Less e = refl
-lt_less Equal e = absurd (true≢false (sym e))
-lt_less Greater e = absurd (true≢false (sym e))
-
-lower_is_beating : {X : Type 0} (cmp : X → X → Ordering) → IsOrder cmp → IsBeating (λ a b. is_lt (cmp a b))
-lower_is_beating cmp laws = record {
-  over = λ x y z e f. ap is_lt (laws.trans z y x (lt_less _ f) (lt_less _ e));
-  under = λ x y z e f. go x y z e f (cmp z x) refl (cmp z y) refl;
-}
-  where
-    go : (x y z : _) → is_lt (cmp y x) ≡ false → is_lt (cmp z y) ≡ false → (o : Ordering) → cmp z x ≡ o → (p : Ordering) → cmp z y ≡ p → is_lt (cmp z x) ≡ false
-    go x y z e f Less g Less h = absurd (true≢false (sym (ap is_lt h) ∙ f))
-    go x y z e f Less g Equal h = absurd (true≢false (sym (ap is_lt (subst (λ w. cmp w x ≡ Less) (laws.same z y h) g)) ∙ e))
-    go x y z e f Less g Greater h = absurd (true≢false (sym (ap is_lt (laws.trans y z x (down cmp laws z y h) g)) ∙ e))
-    go x y z e f Equal g p h = ap is_lt g
-    go x y z e f Greater g p h = ap is_lt g
-
-flipped : {X : Type 0} (cmp : X → X → Ordering) → IsOrder cmp → IsOrder (λ a b. cmp b a)
-flipped cmp laws = record {
-  flip = λ x y. laws.flip y x;
-  trans = λ x y z e f. laws.trans z y x f e;
-  same = λ x y e. sym (laws.same y x e);
-}
-
-gt_reverse : (o : Ordering) → is_gt (ordering_reverse o) ≡ is_lt o
-gt_reverse Less = refl
-gt_reverse Equal = refl
-gt_reverse Greater = refl
-
-gt_lt : {X : Type 0} (cmp : X → X → Ordering) → IsOrder cmp → (a b : X) → is_gt (cmp a b) ≡ is_lt (cmp b a)
-gt_lt cmp laws a b = ap is_gt (laws.flip a b) ∙ gt_reverse (cmp b a)
-
-higher_is_beating : {X : Type 0} (cmp : X → X → Ordering) → IsOrder cmp → IsBeating (λ a b. is_gt (cmp a b))
-higher_is_beating cmp laws =
-    let low : IsBeating (λ a b. is_lt (cmp b a)) = lower_is_beating (λ a b. cmp b a) (flipped cmp laws) in
-    record {
-      over = λ x y z e f. gt_lt cmp laws z x ∙ low.over x y z (sym (gt_lt cmp laws y x) ∙ e) (sym (gt_lt cmp laws z y) ∙ f);
-      under = λ x y z e f. gt_lt cmp laws z x ∙ low.under x y z (sym (gt_lt cmp laws y x) ∙ e) (sym (gt_lt cmp laws z y) ∙ f);
-    }
-
-lower_beats : IsBeating lower
-lower_beats = lower_is_beating compare compare_order
-
-higher_beats : IsBeating higher
-higher_beats = higher_is_beating compare compare_order
-
-lower_second_beats : IsBeating lower_second
-lower_second_beats = record { over = λ x y z. lower_beats.over x.1 y.1 z.1; under = λ x y z. lower_beats.under x.1 y.1 z.1 }
-
-higher_second_beats : IsBeating higher_second
-higher_second_beats = record { over = λ x y z. higher_beats.over x.1 y.1 z.1; under = λ x y z. higher_beats.under x.1 y.1 z.1 }
 
 best_empty : {R X : Type 0} (beats : X → X → Bool) (f : R → X) (A B : List R) → best beats (map f A) ≡ best beats (map f B) → is_empty A ≡ is_empty B
 best_empty beats f A B e = sym (one A) ∙ ap is_none e ∙ one B
@@ -409,7 +355,7 @@ leaf_sound UniqExact ts d A B e = ap (λ rs. Num (pos (length rs % 2 ^ 64))) (ro
 leaf_sound (QuantileExact level) ts d A B e =
     let n : length A ≡ length B = same_length A B (listed_same _ _ e) in
     let b : is_empty A ≡ is_empty B = empty_by_length A ∙ ap is_zero n ∙ sym (empty_by_length B) in
-    ap₂ (λ x y. cond x d y) b (ap₂ (λ k vs. at (quantile_place level k) vs) n (listed_same _ _ e))
+    ap₂ (λ x y. cond x d y) b (ap₂ (λ k vs. arg (quantile_place level k) vs) n (listed_same _ _ e))
 leaf_sound (WindowFunnel window strict) ts d A B e = ap (λ es. Num (pos (funnel_level window strict es))) (events_same (conditions ts) A B e)
 leaf_sound (SequenceMatch pattern) ts d A B e = ap (λ es. Num (pos (bit (is_matched pattern es)))) (events_same (conditions ts) A B e)
 leaf_sound Retention ts d A B e =

@@ -51,7 +51,7 @@ among_append_left x (y ∷ A) B (inl e) = inl e
 among_append_left x (y ∷ A) B (inr a) = inr (among_append_left x A B a)
 among_append_left x [] B a = absurd a
 
-among_append_right : {X : Type 0} (x : X) (A B : List X) → Among x B → Among x (A ++ B)
+pub among_append_right : {X : Type 0} (x : X) (A B : List X) → Among x B → Among x (A ++ B)
 among_append_right x [] B a = a
 among_append_right x (y ∷ A) B a = inr (among_append_right x A B a)
 

@@ -27,7 +27,7 @@ use Rattle.agg_meaning.proofs.Spread.{flat_map_found, index, spread_back}
 use Rattle.agg_meaning.proofs.LeafTrees.{leaf_back, rows_live, filter_all, each_weaker, into_set_first, rising_rest}
 
 -- first occurrences of rows that are apart
-test_apart : {X : Type 0} (cmp : X → X → Ordering) → IsOrder cmp → (x y : X) → x ≢ y → is_eq (cmp x y) ≡ false
+pub test_apart : {X : Type 0} (cmp : X → X → Ordering) → IsOrder cmp → (x y : X) → x ≢ y → is_eq (cmp x y) ≡ false
 test_apart cmp laws x y h = go (cmp x y) refl
   where
     go : (o : Ordering) → cmp x y ≡ o → is_eq (cmp x y) ≡ false

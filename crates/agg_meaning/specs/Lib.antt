@@ -1,8 +1,12 @@
-pub mod Picks
-pub mod Events
 pub mod Feeds
+pub mod Events
 pub mod Results
 pub mod Functions
+pub mod Picks
 pub mod Suffixes
 pub mod Lawful
 pub mod Laws
+pub mod States
+pub mod StateLaws
+pub mod Views
+pub mod ViewLaws

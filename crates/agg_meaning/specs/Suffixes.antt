@@ -1,5 +1,6 @@
--- The four recursions over a chain on whole lists of feeds: meaning, fed, normal form and unfolding.
-use Rattle.std.specs.Prelude.{◌*◌, ℤ, pos, ◌+ℤ◌, Bool, cond, not, List, [], ◌∷◌, map, length, Option, Some, None, option_to_list, flat_map, filter, ◌+◌}
+-- A chain over a whole list of feeds: the feeds that a state unfolds to, its state, whether a row reached the function,
+-- and what it means. Each is said suffix by suffix. Manual: "Aggregate function combinators", under each suffix's name.
+use Rattle.std.specs.Prelude.{◌*◌, pos, ◌+ℤ◌, Bool, cond, not, List, [], ◌∷◌, map, length, Option, Some, None, option_to_list, flat_map, filter}
 use Rattle.std.specs.Ordering.{is_eq}
 use Rattle.agg_terms.specs.Chains.{Array, Chain, Distinct, ForEach, If, MapOf, Merge, Of, OrDefault, OrNull, Resample, State, Ty}
 use Rattle.agg_terms.specs.Values.{Cell, Nil, Tree, Value, keyed_of, keyed_tree, list_value, map_value, rows_of, rows_tree, slots_of, slots_tree}
@@ -11,14 +12,14 @@ use Rattle.agg_terms.specs.Types.{intervals, inward}
 use Rattle.agg_terms.specs.Lists.{is_empty, numbered, places, some}
 use Rattle.agg_meaning.specs.Functions.{leaf_feeds, leaf_meaning, leaf_normal}
 
--- Map: what stands at a key and is not a hole, and the keys
+-- -Map: what stands at a key, a key that stands twice bringing two feeds; and the keys, ascending (this project's own choice)
 abbrev pub at_key : {X : Type 0} → Value → List (Value × Option X) → List X
 at_key k f = flat_map (λ e. cond (is_eq (compare k e.0)) (option_to_list e.1) []) f
 
 abbrev pub keys_of : {X : Type 0} → List (List (Value × Option X)) → List Value
 keys_of L = different compare (flat_map (λ f. map (λ e. e.0) f) L)
 
--- U: the feeds that a state tree unfolds to
+-- The feeds that a state unfolds to: feeds that have this state. Holes make room for slots and keys that no row reached.
 abbrev pub unfolded : (c : Chain) → List Ty → Tree → List (Feed c)
 unfolded (Of f) ts t = leaf_feeds f (plain_row ts) t
 unfolded (If c) ts t = map (λ f. (f, Some 1)) (unfolded c (inward (If c) ts) t)
@@ -38,7 +39,7 @@ unfolded (Resample start end step c) ts t =
     (λ s. map (λ f. (f, Some (start +ℤ pos (s.0 * step)))) (unfolded c (inward (Resample start end step c) ts) s.1))
     (numbered 0 (slots_of t))
 
--- N: the normal form of a list of feeds, a state tree
+-- The state of a list of feeds, a tree: their normal form, which holds what they and any more feeds can be asked for.
 abbrev pub normal : (c : Chain) → List Ty → List (Feed c) → Tree
 normal (Of f) ts L = leaf_normal f ts (filter no_null L)
 normal (If c) ts L = normal c (inward (If c) ts) (flat_map when_met L)
@@ -58,7 +59,7 @@ normal (Resample start end step c) ts L =
     (λ j. normal c (inward (Resample start end step c) ts) (flat_map (in_interval start end step j) L))
     (places 0 (intervals start end step)))
 
--- F: whether a row reached the function
+-- Whether a row reached the function through the suffixes, which -OrNull and -OrDefault ask.
 abbrev pub fed : (c : Chain) → List Ty → List (Feed c) → Bool
 fed (Of f) ts L = not (is_empty (filter no_null L))
 fed (If c) ts L = fed c (inward (If c) ts) (flat_map when_met L)
@@ -75,7 +76,7 @@ fed (Resample start end step c) ts L =
     (λ j. fed c (inward (Resample start end step c) ts) (flat_map (in_interval start end step j) L))
     (places 0 (intervals start end step))
 
--- M: the meaning of a list of feeds
+-- What a chain means over a list of feeds.
 abbrev pub meaning : (c : Chain) → List Ty → List (Feed c) → Value
 meaning (Of f) ts L = leaf_meaning f ts (default (leaf_result f ts)) (filter no_null L)
 meaning (If c) ts L = meaning c (inward (If c) ts) (flat_map when_met L)

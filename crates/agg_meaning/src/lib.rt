@@ -1,13 +1,10 @@
-// The laws of the definitions.
+//! The meaning of every chain of functions and suffixes over whole lists of rows, its state, and the laws of states.
+//!
+//! The definitions stand in specs/: `Events`, `Feeds`, `Picks`, `Results` and `Functions` lead to `Suffixes`, which has
+//! the meaning of a chain, its state as a normal form, and the feeds that a state unfolds to. `Lawful` and `Laws` say
+//! what holds of them, `States` what a state stands for, `Views` the tables and answers of a view.
 #![tactic(auto)]
 
-ghost use Rattle.agg_meaning.specs.Laws.{MeaningIsKept, FedIsKept, MergesAre, TreesAreNormal, NormalsAreTrees};
+mod laws;
 
-/// The laws of normal forms, for every legal chain, all lists of feeds and every state tree.
-pub fn law_states()
-    ensures meaning_is_kept { MeaningIsKept }
-    ensures fed_is_kept { FedIsKept }
-    ensures merges_are { MergesAre }
-    ensures trees_are_normal { TreesAreNormal }
-    ensures normals_are_trees { NormalsAreTrees }
-{}
+pub use laws::{law_stands, law_states, law_views};
