@@ -1,0 +1,12 @@
+pub mod Literals
+pub mod Names
+pub mod Same
+pub mod Faults
+pub mod Suffixes
+pub mod Parameters
+pub mod Counts
+pub mod Kinds
+pub mod States
+pub mod Typing
+pub mod Legal
+pub mod Promises
