@@ -1,0 +1,4 @@
+pub mod ChainsBack
+pub mod FoldLaws
+pub mod TypesBack
+pub mod ValuesBack

@@ -1,0 +1,8 @@
+//! What holds of all values, as contracts of functions that do nothing.
+ghost use Rattle.value_types.specs.OneToOne.{FoldsLoseNothing};
+
+/// Equal images come from equal values: what a contract says of the image of a type, a chain, a value
+/// or a tree, it says of that type, chain, value or tree itself.
+pub fn law_folds()
+    ensures { FoldsLoseNothing }
+{}
