@@ -1,12 +1,11 @@
 -- The first line of a text.
-use Rattle.std.proofs.Common.{◌≡◌, ℕ, ◌+◌, ◌<◌, ◌≤◌, Bool, true, false, List, [], ◌∷◌, Option, None, Some, length, take, drop, cond, nat_lt, refl, ◌∙◌, ap, arith}
+use Rattle.std.proofs.Common.{◌≡◌, ℕ, ◌+◌, ◌<◌, ◌≤◌, Bool, true, false, List, [], ◌∷◌, Option, None, Some, length, take, drop, cond, refl, ◌∙◌, ap, arith}
 use Rattle.std.specs.List.{slice_split, onto_first, position, position_or_len}
 use Rattle.std.proofs.lemmas.Grind.{common_steps}
 use Rattle.std.proofs.lemmas.List.Splits.{slice_split_first, slice_split_none}
 use Rattle.std.proofs.lemmas.Bool.Decides.{nat_tests}
-use Rattle.std.proofs.lemmas.Option.{cond_some}
-use Rattle.std.proofs.lemmas.Bool.{ltb-true, ltb-false}
 use Rattle.std.proofs.lemmas.List.Sums.{fails_before_first}
+use Rattle.tsv_text.proofs.First.{found-first, nowhere}
 use Rattle.tsv_text.specs.Lines.{is_newline, without_empty_last, lines_of}
 
 -- a list of parts is never empty, so that the part before it is kept
@@ -18,22 +17,14 @@ front-kept x p (y ∷ ys) =
       | false ↦ elim (slice_split p ys) as (λ parts. without_empty_last (x ∷ onto_first y parts) ≡ x ∷ without_empty_last (onto_first y parts)) [ [] ↦ refl | part ∷ parts ↦ refl ]
     ]
 
--- where the first newline is
-found-first : (p : ℕ → Bool) (xs : List ℕ) (at : ℕ) → position p xs ≡ Some at → (position_or_len p xs < length xs) × (position_or_len p xs ≡ at)
-found-first p xs at found = let some = cond_some (nat_lt (position_or_len p xs) (length xs)) (position_or_len p xs) at found in (ltb-true _ _ some.0, some.1)
-
 -- up to the first such byte, and behind it
 pub split-found : (p : ℕ → Bool) (xs : List ℕ) (at : ℕ) → position p xs ≡ Some at → slice_split p xs ≡ take at xs ∷ slice_split p (drop (at + 1) xs)
 split-found p xs at found = let first = found-first p xs at found in rw (first.1) at (slice_split_first p xs 0 first.0)
 
 -- where there is none
-none-found : (b : Bool) (x : ℕ) → cond b (Some x) None ≡ None → b ≡ false
-none-found true x e = cc
-none-found false x e = refl
-
 pub split-none : (p : ℕ → Bool) (xs : List ℕ) → position p xs ≡ None → slice_split p xs ≡ xs ∷ []
 split-none p xs found =
-    let none : length xs ≤ position_or_len p xs = ltb-false _ _ (none-found (nat_lt (position_or_len p xs) (length xs)) (position_or_len p xs) found) in
+    let none : length xs ≤ position_or_len p xs = nowhere p xs found in
     slice_split_none p xs (λ k d within. fails_before_first p xs k d (omega arith))
 
 pub lines_of-newline : (text : List ℕ) (at : ℕ) → position is_newline text ≡ Some at → lines_of text ≡ take at text ∷ lines_of (drop (at + 1) text)

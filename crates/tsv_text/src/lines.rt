@@ -1,6 +1,9 @@
-ghost use Rattle.std.specs.Prelude.{◌≡◌, ◌==◌, ◌<◌, ◌∷◌, ◌^◌, [], length, position, count_by, MatchOption};
+ghost use Rattle.std.specs.Prelude.{◌≡◌, ◌==◌, ◌<◌, ◌∷◌, ◌^◌, [], length, position, count_by, MatchOption, IfOk};
 ghost use Rattle.std.specs.List.{slice_split};
-ghost use Rattle.tsv_text.specs.Lines.{is_newline, is_tab, lines_of, fields_of};
+ghost use Rattle.tsv_text.specs.Lines.{is_newline, is_tab, lines_of, fields_of, places_from};
+
+use std::alloc::Global;
+use value_lists::{OutOfMemory, Seq};
 
 fn newline(text: &[u8]) -> Option<usize>
     ensures { result ≡ position is_newline text.now }
@@ -37,6 +40,21 @@ pub fn first_field(line: &[u8]) -> (&[u8], Option<&[u8]>)
         Some(at) => (&line[..at], Some(line.split_at(at + 1).1)),
         None => (line, None),
     }
+}
+
+/// Where the fields of a line stand: each one's start and end, in bytes from 0.
+pub fn split_fields(alloc: Global, line: &[u8]) -> Result<Seq<(usize, usize)>, OutOfMemory>
+    ensures { IfOk result (λ places. places ≡ places_from 0 (fields_of line.now)) }
+{
+    let mut places = Vec::new(alloc);
+    let mut rest = Some(line);
+    while let Some(text) = rest {
+        let start = line.len() - text.len();
+        let (field, after) = first_field(text);
+        places.push((start, start + field.len()))?;
+        rest = after;
+    }
+    Ok(Seq::from_vec(places))
 }
 
 fn tab_count(line: &[u8]) -> usize

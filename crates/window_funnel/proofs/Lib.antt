@@ -1,0 +1,3 @@
+pub mod Reaches
+pub mod Tables
+pub mod Joined
