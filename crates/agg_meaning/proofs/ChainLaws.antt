@@ -26,13 +26,13 @@ use Rattle.agg_terms.proofs.Lists.{trees_back, keyed_back, table_back}
 use Rattle.agg_meaning.proofs.LeafLaws.{leaf_joins, leaf_sound, leaf_fed}
 use Rattle.agg_meaning.proofs.Links.{length-places, place_covered, width-append, key_covered, keys_joined, some-map, fixed_joined}
 
-slots_same : (s t : List Tree) → slots_tree s ≡ slots_tree t → s ≡ t
+pub slots_same : (s t : List Tree) → slots_tree s ≡ slots_tree t → s ≡ t
 slots_same s t e = sym (trees_back s) ∙ ap slots_of e ∙ trees_back t
 
-keyed_same : (s t : List (Value × Tree)) → keyed_tree s ≡ keyed_tree t → s ≡ t
+pub keyed_same : (s t : List (Value × Tree)) → keyed_tree s ≡ keyed_tree t → s ≡ t
 keyed_same s t e = sym (keyed_back s) ∙ ap keyed_of e ∙ keyed_back t
 
-rows_same : (s t : List (List Value)) → rows_tree s ≡ rows_tree t → s ≡ t
+pub rows_same : (s t : List (List Value)) → rows_tree s ≡ rows_tree t → s ≡ t
 rows_same s t e = sym (table_back s) ∙ ap rows_of e ∙ table_back t
 
 -- tables of as many slots
@@ -48,17 +48,17 @@ width_joined A A' B B' a b =
     one m n e = sym (length-places 0 m) ∙ ap length e ∙ length-places 0 n
 
 -- tables of the same keys
-abbrev paired : {X : Type 0} → (Value → X) → Value → Value × X
+abbrev pub paired : {X : Type 0} → (Value → X) → Value → Value × X
 paired f k = (k, f k)
 
-abbrev key_part : {X : Type 0} → Value × X → Value
+abbrev pub key_part : {X : Type 0} → Value × X → Value
 key_part e = e.0
 
-table_keys : {X : Type 0} (f : Value → X) (ks : List Value) → map key_part (map (paired f) ks) ≡ ks
+pub table_keys : {X : Type 0} (f : Value → X) (ks : List Value) → map key_part (map (paired f) ks) ≡ ks
 table_keys f [] = refl
 table_keys f (k ∷ ks) = ap (◌∷◌ k) (table_keys f ks)
 
-keys_same : {X : Type 0} (f g : Value → X) (js ks : List Value) → map (paired f) js ≡ map (paired g) ks → js ≡ ks
+pub keys_same : {X : Type 0} (f g : Value → X) (js ks : List Value) → map (paired f) js ≡ map (paired g) ks → js ≡ ks
 keys_same f g js ks e = sym (table_keys f js) ∙ ap (map key_part) e ∙ table_keys g ks
 
 pub joins : (c : Chain) (ts : List Ty) (A A' B B' : List (Feed c)) → normal c ts A ≡ normal c ts A' → normal c ts B ≡ normal c ts B' → normal c ts (A ++ B) ≡ normal c ts (A' ++ B')

@@ -306,3 +306,7 @@ retention_first = refl
 retention_without_first : over (Of Retention) (Whole 8 ∷ Whole 8 ∷ []) ((n 0 ∷ n 1 ∷ []) ∷ []) ≡ list_value (n 0 ∷ n 0 ∷ [])
 unfolding compare
 retention_without_first = refl
+
+retention_one_row : over (Of Retention) (Whole 8 ∷ Whole 8 ∷ Whole 8 ∷ []) ((n 1 ∷ n 1 ∷ n 0 ∷ []) ∷ []) ≡ list_value (n 1 ∷ n 1 ∷ n 0 ∷ [])
+unfolding compare
+retention_one_row = refl

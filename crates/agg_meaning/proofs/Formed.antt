@@ -100,7 +100,7 @@ met_here P (x, Some n) k = pick (nat_eq n 0)
     pick true = tt
     pick false = (k, tt)
 
-inside_here : {X : Type 0} (P : X → Type 0) (a b : ℤ) (p j : ℕ) (f : X × Option ℤ) → P f.0 → Each P (in_interval a b p j f)
+pub inside_here : {X : Type 0} (P : X → Type 0) (a b : ℤ) (p j : ℕ) (f : X × Option ℤ) → P f.0 → Each P (in_interval a b p j f)
 inside_here P a b p j (x, None) k = tt
 inside_here P a b p j (x, Some z) k = pick (is_inside a b p j z)
   where
@@ -112,12 +112,12 @@ option_here : {X : Type 0} (P : X → Type 0) (o : Option X) → IfHere P o → 
 option_here P None k = tt
 option_here P (Some x) k = (k, tt)
 
-place_here : {X : Type 0} (P : X → Type 0) (i : ℕ) (f : List (Option X)) → Each (IfHere P) f → Each P (at_place i f)
+pub place_here : {X : Type 0} (P : X → Type 0) (i : ℕ) (f : List (Option X)) → Each (IfHere P) f → Each P (at_place i f)
 place_here P i [] k = tt
 place_here P zero (h ∷ f) k = option_here P h k.0
 place_here P (suc i) (h ∷ f) k = place_here P i f k.1
 
-key_here : {X : Type 0} (K : Value → Type 0) (P : X → Type 0) (j : Value) (f : List (Value × Option X)) → Each (λ e. K e.0 × IfHere P e.1) f → Each P (at_key j f)
+pub key_here : {X : Type 0} (K : Value → Type 0) (P : X → Type 0) (j : Value) (f : List (Value × Option X)) → Each (λ e. K e.0 × IfHere P e.1) f → Each P (at_key j f)
 key_here K P j f k = each_flat_map (λ e. K e.0 × IfHere P e.1) P (λ e. cond (is_eq (compare j e.0)) (option_to_list e.1) []) (λ e h. pick e.1 h.1 (is_eq (compare j e.0))) f k
   where
     pick : (o : Option _) → IfHere P o → (b : Bool) → Each P (cond b (option_to_list o) [])

@@ -25,12 +25,12 @@ among_places s (suc n) i l h = go (cases_lt s i) (λ k. among_places (suc s) n i
     go (inl k) later = inr (later k)
     go (inr k) later = inl (omega arith)
 
-at_place_past : {X : Type 0} (i : ℕ) (f : List (Option X)) → length f ≤ i → at_place i f ≡ []
+pub at_place_past : {X : Type 0} (i : ℕ) (f : List (Option X)) → length f ≤ i → at_place i f ≡ []
 at_place_past i [] l = refl
 at_place_past zero (h ∷ f) l = absurd (omega arith)
 at_place_past (suc i) (h ∷ f) l = at_place_past i f (omega arith)
 
-past_width : {X : Type 0} (i : ℕ) (L : List (List (Option X))) → width L ≤ i → flat_map (at_place i) L ≡ []
+pub past_width : {X : Type 0} (i : ℕ) (L : List (List (Option X))) → width L ≤ i → flat_map (at_place i) L ≡ []
 past_width i [] l = refl
 past_width i (f ∷ L) l = ap₂ ◌++◌ (at_place_past i f (omega arith)) (past_width i L (omega arith))
 
@@ -46,7 +46,7 @@ width-append [] B = omega arith
 width-append (f ∷ A) B = omega (arith, width-append A B)
 
 -- keys
-among_append_left : {X : Type 0} (x : X) (A B : List X) → Among x A → Among x (A ++ B)
+pub among_append_left : {X : Type 0} (x : X) (A B : List X) → Among x A → Among x (A ++ B)
 among_append_left x (y ∷ A) B (inl e) = inl e
 among_append_left x (y ∷ A) B (inr a) = inr (among_append_left x A B a)
 among_append_left x [] B a = absurd a

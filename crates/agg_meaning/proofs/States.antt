@@ -26,7 +26,7 @@ pub value_of_meant : (c : Chain) (ts : List Ty) (t : Tree) (x : Value) → IsLeg
 value_of_meant c ts t x l k a = a (unfolded c ts t) l (stands_unfolded c ts t l k)
 
 pub fed_of_told : (c : Chain) (ts : List Ty) (t : Tree) (b : Bool) → IsLegal c ts → IsTree c ts t → IsFedChain c ts t b → b ≡ fed c ts (unfolded c ts t)
-fed_of_told c ts t b l k a = a (unfolded c ts t) (stands_unfolded c ts t l k)
+fed_of_told c ts t b l k a = a (unfolded c ts t) l (stands_unfolded c ts t l k)
 
 pub stands_more : (c : Chain) (ts : List Ty) (L fs : List (Feed c)) (t : Tree) → IsLegal c ts → AreFeeds c ts L → StandsFor c ts L t → StandsFor c ts (L ++ fs) (normal c ts (unfolded c ts t ++ fs))
 stands_more c ts L fs t l k e =

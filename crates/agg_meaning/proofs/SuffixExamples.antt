@@ -1,7 +1,7 @@
 -- What the suffixes mean over small lists of rows, and states that surprise.
 use Rattle.std.proofs.Common.{◌≡◌, ℕ, zero, suc, ◌<◌, ◌^◌, ◌%◌, pos, cond, not, arith, negsuc, List, [], ◌∷◌, ◌++◌, length, replicate, Some, None, refl, ap}
 use Rattle.std.specs.Prelude.{filter}
-use Rattle.agg_terms.specs.Values.{Value, Bytes, Nil, Cell, Empty, Word, list_value, map_value, slots_tree, values_tree}
+use Rattle.agg_terms.specs.Values.{Value, Bytes, Nil, Cell, Empty, Word, keyed_tree, list_value, map_value, slots_tree, values_tree}
 use Rattle.agg_terms.specs.Chains.{And, ArgMin, Arr, Array, Count, Distinct, ForEach, GroupArray, GroupBit, If, MapOf, MapTy, Merge, Nullable, Of, OrDefault, OrNull, Resample, Retention, State, Str, Sum, Whole}
 use Rattle.agg_terms.specs.Order.{compare}
 use Rattle.agg_meaning.specs.Feeds.{no_null}
@@ -134,6 +134,14 @@ merged = refl
 -- at the first, but feeds with holes do.
 count_each : normal (ForEach (Of Count)) (Arr (Whole 8) ∷ []) (unfolded (ForEach (Of Count)) (Arr (Whole 8) ∷ []) (slots_tree (Empty ∷ Word (pos 2) ∷ []))) ≡ slots_tree (Empty ∷ Word (pos 2) ∷ [])
 count_each = refl
+
+-- An empty slot at the end, and a key that no row reached, stay in a state that is unfolded.
+each_end : normal (ForEach (Of Sum)) (Arr (Whole 8) ∷ []) (unfolded (ForEach (Of Sum)) (Arr (Whole 8) ∷ []) (slots_tree (Word (pos 2) ∷ Empty ∷ []))) ≡ slots_tree (Word (pos 2) ∷ Empty ∷ [])
+each_end = refl
+
+map_key : normal (MapOf (Of Sum)) (MapTy (Whole 8) (Whole 8) ∷ []) (unfolded (MapOf (Of Sum)) (MapTy (Whole 8) (Whole 8) ∷ []) (keyed_tree ((n 1, Empty) ∷ (n 2, Word (pos 5)) ∷ []))) ≡ keyed_tree ((n 1, Empty) ∷ (n 2, Word (pos 5)) ∷ [])
+unfolding compare
+map_key = refl
 
 -- A count of 2^64 rows is 0, as that of none, but its state is another, so -OrNull tells them apart after a reload.
 merged_none : meaning (OrNull (Merge (Of Count))) [] (Empty ∷ []) ≡ Nil

@@ -1,7 +1,7 @@
 -- Small views over few rows: their answers, and states that were merged and loaded again.
-use Rattle.std.proofs.Common.{◌≡◌, List, [], ◌∷◌, map, refl}
-use Rattle.agg_terms.specs.Values.{Value, Word}
-use Rattle.agg_terms.specs.Chains.{Count, Of, Sum, Whole}
+use Rattle.std.proofs.Common.{◌≡◌, List, [], ◌∷◌, map, None, refl}
+use Rattle.agg_terms.specs.Values.{Value, Word, list_value}
+use Rattle.agg_terms.specs.Chains.{Count, GroupArray, Of, Sum, Whole}
 use Rattle.agg_terms.specs.Order.{compare}
 use Rattle.agg_meaning.specs.Views.{View, answer, of_row, of_states}
 use Rattle.agg_meaning.proofs.Examples.{n}
@@ -40,3 +40,11 @@ loaded : answer by_day (of_states by_day (n 2 ∷ [], Word (pos 2) ∷ Word (pos
     ≡ (n 2 ∷ [], n 3 ∷ n 13 ∷ []) ∷ []
 unfolding compare
 loaded = refl
+
+-- within a group the rows stay in their order
+abbrev in_turn : View
+in_turn = record { keys = 0 ∷ []; calls = record { chain = Of (GroupArray None); types = Whole 8 ∷ []; columns = 1 ∷ [] } ∷ [] }
+
+kept_in_order : answer in_turn (map (of_row in_turn) rows) ≡ (n 1 ∷ [], list_value (n 10 ∷ []) ∷ []) ∷ (n 2 ∷ [], list_value (n 5 ∷ n 7 ∷ []) ∷ []) ∷ []
+unfolding compare
+kept_in_order = refl

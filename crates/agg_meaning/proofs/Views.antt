@@ -20,6 +20,7 @@ use Rattle.agg_meaning.proofs.ChainLaws.{joins, means_same}
 use Rattle.agg_meaning.proofs.Formed.{again, law_joined}
 use Rattle.agg_meaning.proofs.Groups.{among_apart, firsts_put, group_covered, groups_are, groups_ascend, groups_joined, key_of, of_group, put_groups}
 use Rattle.agg_meaning.proofs.Kept.{each_flat_map, each_of_map}
+use Rattle.agg_meaning.proofs.Places.{get_or-places, map-places}
 use Rattle.agg_meaning.proofs.Spread.{index, spread_back}
 use Rattle.agg_meaning.proofs.TreeLaws.{rising_apart, test_apart}
 
@@ -164,24 +165,15 @@ module _ (v : View) where
   loaded [] = refl
   loaded (p ∷ lines) = ap (◌∷◌ (of_states v p)) (loaded lines)
 
-  at_place : (f : ℕ → Tree) (s n i : ℕ) → i < n → get_or (map f (places s n)) i Empty ≡ f (s + i)
-  at_place f s zero i h = absurd (omega arith)
-  at_place f s (suc n) zero h = ap f (omega arith)
-  at_place f s (suc n) (suc i) h = let e : suc s + i ≡ s + suc i = omega arith in at_place f (suc s) n i (omega arith) ∙ ap f e
-
-  same_below : (f g : ℕ → Tree) (s n : ℕ) → ((i : ℕ) → i < s + n → f i ≡ g i) → map f (places s n) ≡ map g (places s n)
-  same_below f g s zero h = refl
-  same_below f g s (suc n) h = ap₂ ◌∷◌ (h s (omega arith)) (same_below f g (suc s) n (λ i k. h i (omega arith)))
-
   line_back : IsLegalView v → (C : List (Contribution v)) → AreContributions v C → (g : List Value) → states_of (unfold_all (map (state_at v C g) (places 0 count))) ≡ map (state_at v C g) (places 0 count)
-  line_back l C k g = same_below (λ i. normal (chain_at i) (types_at i) (joined_at i (unfold_all (map (state_at v C g) (places 0 count))))) (state_at v C g) 0 count each
+  line_back l C k g = map-places (λ i. normal (chain_at i) (types_at i) (joined_at i (unfold_all (map (state_at v C g) (places 0 count))))) (state_at v C g) 0 count each
     where
       each : (i : ℕ) → i < 0 + count → normal (chain_at i) (types_at i) (joined_at i (unfold_all (map (state_at v C g) (places 0 count)))) ≡ state_at v C g i
       each i h =
           let h' : i < count = omega (arith, h) in
           let z : 0 + i ≡ i = omega arith in
           ap (normal (chain_at i) (types_at i)) (append-nil (unfolded (chain_at i) (types_at i) (get_or (map (state_at v C g) (places 0 count)) i Empty)))
-          ∙ ap (λ t. normal (chain_at i) (types_at i) (unfolded (chain_at i) (types_at i) t)) (at_place (state_at v C g) 0 count i h' ∙ ap (state_at v C g) z)
+          ∙ ap (λ t. normal (chain_at i) (types_at i) (unfolded (chain_at i) (types_at i) t)) (get_or-places (state_at v C g) Empty 0 count i h' ∙ ap (state_at v C g) z)
           ∙ again (chain_at i) (types_at i) (each_call v.calls l i).0 (each_call v.calls l i).1 (feeds_of v g i C) (feeds_here C g i h' k)
 
   pub tables_reload : IsLegalView v → (C : List (Contribution v)) → AreContributions v C → tables v (map (of_states v) (tables v C)) ≡ tables v C

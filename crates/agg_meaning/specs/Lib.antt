@@ -1,5 +1,6 @@
 pub mod Feeds
 pub mod Events
+pub mod EventLaws
 pub mod Results
 pub mod Functions
 pub mod Picks

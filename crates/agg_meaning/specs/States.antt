@@ -66,4 +66,4 @@ MeansChain c ts t x = (L : List (Feed c)) → IsLegal c ts → StandsFor c ts L 
 
 -- whether it stands for rows that reached the function
 abbrev pub IsFedChain : Chain → List Ty → Tree → Bool → Type 0
-IsFedChain c ts t b = (L : List (Feed c)) → StandsFor c ts L t → b ≡ fed c ts L
+IsFedChain c ts t b = (L : List (Feed c)) → IsLegal c ts → StandsFor c ts L t → b ≡ fed c ts L

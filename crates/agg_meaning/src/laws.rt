@@ -1,8 +1,18 @@
 //! The laws as contracts: each clause is a statement of specs/ that is proved here.
 
+ghost use Rattle.agg_meaning.specs.EventLaws.{LevelIsGreatest, LevelIsReached, MatchHasPlaces, PlacesAreMatch};
 ghost use Rattle.agg_meaning.specs.Laws.{FedIsKept, MeaningIsKept, MergesAre, NoneIsBlank, NormalsAreTrees, OnlyLiveFeed, OnlyLiveMean, OnlyLiveStay, SameStatesAreFed, SameStatesMean, StatesJoin, TreesAreNormal, TreesUnfold};
 ghost use Rattle.agg_meaning.specs.StateLaws.{LeafRowsAreAdded, LeafUnfoldingIsFed, LeafUnfoldingIsMeant, LeafUnfoldingsAreJoined, RowsAreAdded, UnfoldingIsFed, UnfoldingIsMeant, UnfoldingTakesFeeds, UnfoldingsAreJoined};
 ghost use Rattle.agg_meaning.specs.ViewLaws.{AbsentIsBlank, GroupsAreJoined, GroupsAscend, SameTablesAnswer, TablesAreMerged, TablesJoin, TablesReload};
+
+/// Funnels and patterns in the words of places: a funnel's level is the greatest number of increasing places among the
+/// events that are a funnel chain, and a pattern matches exactly where some increasing places match it.
+pub fn law_events()
+    ensures level_is_reached { LevelIsReached }
+    ensures level_is_greatest { LevelIsGreatest }
+    ensures match_has_places { MatchHasPlaces }
+    ensures places_are_match { PlacesAreMatch }
+{}
 
 /// The laws of normal forms, for every legal chain, all lists of feeds and every state tree: merging, storing and
 /// reloading states lose nothing, and only live feeds count.

@@ -1,5 +1,5 @@
 //! Lists.
-ghost use Rattle.std.specs.Prelude.{◌≡◌, [], ◌∷◌, ◌++◌, length, IfOk, IsTrue, ◌↔◌, OnErr, OnOk};
+ghost use Rattle.std.specs.Prelude.{◌≡◌, [], ◌∷◌, ◌++◌, length, take, IfOk, IsTrue, ◌↔◌, MatchOption, OnErr, OnOk};
 
 use crate::OutOfMemory;
 use std::alloc::Global;
@@ -67,6 +67,13 @@ impl<T> Seq<T> {
     {
         self.items.as_slice()
     }
+
+    /// Takes the last item off, if there is one.
+    pub fn pop(&mut self) -> Option<T>
+        ensures { MatchOption result ((self.old ≡ []) × (self.new ≡ [])) (λ last. self.old ≡ self.new ++ last ∷ []) }
+    {
+        self.items.pop()
+    }
 }
 
 impl<T: Drop> Seq<T> {
@@ -83,6 +90,13 @@ impl<T: Drop> Seq<T> {
         Ok(())
     }
 
+    /// Drops all items from place `len` on.
+    pub fn truncate(&mut self, len: usize)
+        ensures { self.new ≡ take len self.old }
+    {
+        self.items.truncate(len);
+    }
+
     /// Makes room for `more` items, so that as many pushes take no memory.
     ///
     /// # Errors
@@ -97,6 +111,19 @@ impl<T: Drop> Seq<T> {
 }
 
 impl<T: Copy> Seq<T> {
+    /// Adds copies of these items at the end.
+    ///
+    /// # Errors
+    ///
+    /// [`OutOfMemory`] where there is no room; the list is as before.
+    pub fn extend_from_slice(&mut self, items: &[T]) -> Result<(), OutOfMemory>
+        ensures ok { OnOk result (self.new ≡ self.old ++ items.now) }
+        ensures err { OnErr result (self.new ≡ self.old) }
+    {
+        self.items.extend_from_slice(items)?;
+        Ok(())
+    }
+
     /// A list of copies of these items.
     ///
     /// # Errors

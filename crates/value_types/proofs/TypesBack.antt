@@ -2,12 +2,11 @@
 use Rattle.std.proofs.Common.{◌≡◌, cond, nat_eq, List, [], ◌∷◌, map, refl, sym, ap, ap₂, ◌∙◌}
 use mir.Syntax.{w8, w16, w32}
 use Rattle.agg_terms.specs.Chains as terms
-use Rattle.value_types.specs.declared.chain.Chain.{Chain}
 use Rattle.value_types.specs.declared.ty.Ty.{Ty}
 use Rattle.value_types.specs.declared.ty.Ty.TheOpen.{Ty-F}
 use Rattle.value_types.specs.declared.ty.Ty.TheFolds.{fold-roll-Ty, ind-Ty, map-Ty}
 use Rattle.value_types.specs.declared.ty.Ty.TheViews.{roll-Ty}
-use Rattle.value_types.specs.Folds.{chain_of, ty_of, ty_step}
+use Rattle.value_types.specs.Folds.{ty_of, ty_step}
 use Rattle.value_types.proofs.ChainsBack.{chain_back, chain_read}
 
 abbrev mutual

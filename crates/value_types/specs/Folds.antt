@@ -25,7 +25,7 @@ use Rattle.value_types.specs.declared.value.Tree.TheOpen.{Value-F, Tree-F, Keyed
 use Rattle.value_types.specs.declared.value.Tree.TheFolds.{fold-Value, fold-Tree, fold-KeyedTree}
 use Rattle.value_types.specs.declared.value.KeyedTree.{KeyedTree}
 
--- patterns
+-- a comparison of two times with a number
 abbrev pub op_of : Op → terms.Op
 op_of op.Less = terms.Below
 op_of op.LessEq = terms.BelowOrAt
@@ -33,19 +33,22 @@ op_of op.Equal = terms.At
 op_of op.GreaterEq = terms.AtOrAbove
 op_of op.Greater = terms.Above
 
+-- what an event of a match must be
 abbrev pub item_of : PatItem → terms.PatItem
 item_of (item.Cond n) = terms.Cond n
 item_of item.Any = terms.Any
 
+-- how an event of a match follows the one before
 abbrev pub link_of : PatLink → terms.PatLink
 link_of link.Next = terms.Next
 link_of link.Gap = terms.Gap
 link_of (link.Time o n) = terms.Time (op_of o) n
 
+-- a pattern, item by item and link by link
 abbrev pub pattern_of : Pattern → terms.Pattern
 pattern_of p = record { items = map item_of p.items; links = map link_of p.links }
 
--- functions
+-- a function; the three bit functions are there one function with its operation
 abbrev pub leaf_of : Leaf → terms.Leaf
 leaf_of leaf.Count = terms.Count
 leaf_of leaf.Sum = terms.Sum
@@ -63,7 +66,7 @@ leaf_of (leaf.WindowFunnel window strict) = terms.WindowFunnel window strict
 leaf_of (leaf.SequenceMatch pattern) = terms.SequenceMatch (pattern_of pattern)
 leaf_of leaf.Retention = terms.Retention
 
--- chains: a chain of which the part inside stands already as it is in the definitions
+-- one suffix, over what the chain inside is
 abbrev pub chain_step : Chain-F terms.Chain → terms.Chain
 chain_step (Chain-F.Leaf f) = terms.Of (leaf_of f)
 chain_step (Chain-F.If c) = terms.If c
@@ -77,10 +80,11 @@ chain_step (Chain-F.Resample start end step c) = terms.Resample start end step c
 chain_step (Chain-F.State c) = terms.State c
 chain_step (Chain-F.Merge c) = terms.Merge c
 
+-- a chain, from the inside out
 abbrev pub chain_of : Chain → terms.Chain
 chain_of = fold-Chain terms.Chain chain_step
 
--- types
+-- one layer of a type, over what its parts are; number types are told by their width
 abbrev pub ty_step : Ty-F terms.Ty → terms.Ty
 ty_step Ty-F.U8 = terms.Whole 8
 ty_step Ty-F.U16 = terms.Whole 16
@@ -96,13 +100,15 @@ ty_step (Ty-F.Map k t) = terms.MapTy k t
 ty_step (Ty-F.Nullable t) = terms.Nullable t
 ty_step (Ty-F.State c ts) = terms.StateOf (chain_of c) (terms.tys ts)
 
+-- a type
 abbrev pub ty_of : Ty → terms.Ty
 ty_of = fold-Ty terms.Ty ty_step
 
--- values and trees
+-- an event, with the same time and mask
 abbrev pub event_of : Event → family.Event
 event_of e = record { time = e.time; mask = e.mask }
 
+-- one layer of a value, over what its parts are
 abbrev pub value_step : Value-F family.Tree family.Value (family.Value × family.Tree) → family.Value
 value_step (Value-F.Num n) = family.Num n
 value_step (Value-F.Bytes bytes) = family.Bytes bytes
@@ -111,6 +117,7 @@ value_step (Value-F.List items) = family.list_value items
 value_step (Value-F.Pairs pairs) = family.map_value pairs
 value_step (Value-F.Cell tree) = family.Cell tree
 
+-- one layer of a state tree, over what its parts are
 abbrev pub tree_step : Tree-F family.Tree family.Value (family.Value × family.Tree) → family.Tree
 tree_step Tree-F.Empty = family.Empty
 tree_step (Tree-F.Word n) = family.Word n
@@ -121,14 +128,18 @@ tree_step (Tree-F.Events events) = family.Events (map event_of events)
 tree_step (Tree-F.Slots slots) = family.slots_tree slots
 tree_step (Tree-F.Keyed entries) = family.keyed_tree entries
 
+-- a key with its tree is a pair
 abbrev pub entry_step : KeyedTree-F family.Tree family.Value (family.Value × family.Tree) → family.Value × family.Tree
 entry_step e = (e.key, e.tree)
 
+-- a value
 abbrev pub value_of : Value → family.Value
 value_of = fold-Value family.Tree family.Value (family.Value × family.Tree) tree_step value_step entry_step
 
+-- a state tree
 abbrev pub tree_of : Tree → family.Tree
 tree_of = fold-Tree family.Tree family.Value (family.Value × family.Tree) tree_step value_step entry_step
 
+-- the state at a key of a map
 abbrev pub entry_of : KeyedTree → family.Value × family.Tree
 entry_of = fold-KeyedTree family.Tree family.Value (family.Value × family.Tree) tree_step value_step entry_step

@@ -30,6 +30,6 @@ pub use pattern::{Op, PatItem, PatLink, Pattern};
 pub use ty::Ty;
 pub use type_copies::copy_types;
 pub use value::{Event, KeyedTree, Tree, Value};
-pub use value_copies::{copy_trees, copy_values};
+pub use value_copies::{copy_rows, copy_trees, copy_values};
 pub use value_lists::{Boxed, Bytes, OutOfMemory, Seq};
 pub use words::{bare, element, is_nil, is_nullable, is_signed, map_item, map_key, number};

@@ -96,8 +96,13 @@ fn copy_pairs(alloc: Global, pairs: &[(Value, Value)]) -> Result<Seq<(Value, Val
     Ok(copied)
 }
 
+/// An equal list of rows.
+///
+/// # Errors
+///
+/// [`OutOfMemory`] where there is no room for it.
 #[cycle(copy_value)]
-fn copy_rows(alloc: Global, rows: &[Seq<Value>]) -> Result<Seq<Seq<Value>>, OutOfMemory>
+pub fn copy_rows(alloc: Global, rows: &[Seq<Value>]) -> Result<Seq<Seq<Value>>, OutOfMemory>
     ensures { IfOk result (λ copied. copied ≡ rows.now) }
 {
     let mut copied = Seq::new(alloc);
