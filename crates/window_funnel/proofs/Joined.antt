@@ -1,5 +1,5 @@
 -- Events of one time taken together, and where the table begins and ends.
-use Rattle.std.proofs.Common.{◌≡◌, ℕ, zero, suc, ◌+◌, ◌/◌, ◌%◌, ◌^◌, ◌<◌, ◌≤◌, max, Bool, true, false, cond, not, ◌&&◌, ◌||◌, List, [], ◌∷◌, length, Option, Some, None, replicate, take, ◌≢◌, subst, pow_pos, refl, sym, ap, ap₂, ◌∙◌, arith}
+use Rattle.std.proofs.Common.{◌≡◌, ℕ, zero, suc, ◌+◌, ◌/◌, ◌%◌, ◌^◌, ◌<◌, ◌≤◌, max, Bool, true, false, cond, ◌&&◌, ◌||◌, List, [], ◌∷◌, length, Option, Some, None, replicate, take, ◌≢◌, subst, pow_pos, refl, sym, ap, ap₂, ◌∙◌, arith}
 use Rattle.std.specs.Prelude.{nat_le, nat_eq, bit_or}
 use Rattle.std.proofs.lemmas.Bool.{lt-leb}
 use Rattle.std.proofs.lemmas.Nat.{or_lt}
@@ -12,7 +12,7 @@ use Rattle.agg_terms.specs.Trees.{by_time}
 use Rattle.std.specs.Ordering.{is_le, nat_cmp}
 use Rattle.agg_meaning.specs.Events.{is_in, funnel_level}
 use Rattle.window_funnel.specs.Starts.{longest, with_event}
-use Rattle.window_funnel.proofs.Reaches.{after, goes_on, reach, begun, level-begun}
+use Rattle.window_funnel.proofs.Reaches.{after, reach, level-begun}
 use Rattle.window_funnel.proofs.Tables.{reaches, gains, best, AllFrom, best-event, best-least, best-table}
 
 -- an event of the same time doesn't follow
@@ -161,7 +161,7 @@ going-joined window true n whole p e xs es g s h = record {
   fits = or_lt n p.mask e.mask g.fits g.all_fit.0;
   level = g.level ∙ level-joined window p e xs es h;
   all_fit = g.all_fit.1;
-  ordered = subst (λ t. InOrder t es) h g.ordered.1
+  ordered = subst (λ t. InOrder t es) h g.ordered.1;
 }
 going-joined window false n whole p e xs es g s h = absurd (cc s)
 
@@ -174,10 +174,10 @@ going-next window strict n whole p e xs es g h = record {
   size = length-with_event window p 0 (Some p.time) xs ∙ g.size;
   fits = g.all_fit.0;
   level =
-    g.level
-    ∙ level-next window strict p e xs es (ap (λ k. is_in k p.mask) g.size ∙ outside n p.mask g.fits) (after_le strict p.time e.time g.ordered.0 h) g.ordered.0 (all_from e.time e.time es (omega arith) g.ordered.1);
+      g.level
+      ∙ level-next window strict p e xs es (ap (λ k. is_in k p.mask) g.size ∙ outside n p.mask g.fits) (after_le strict p.time e.time g.ordered.0 h) g.ordered.0 (all_from e.time e.time es (omega arith) g.ordered.1);
   all_fit = g.all_fit.1;
-  ordered = g.ordered.1
+  ordered = g.ordered.1;
 }
 
 pub going-end : (window : ℕ) (strict : Bool) (n whole : ℕ) (p : Event) (xs : List (Option ℕ)) → Going window strict n whole p xs [] → longest 1 (with_event window p 0 (Some p.time) xs) ≡ whole
@@ -195,8 +195,8 @@ going-start window strict xs es blank fit order = record {
   size = refl;
   fits = pow_pos (length xs);
   level =
-    level-start window strict (length xs) es
-    ∙ ap (λ ys. level_with window strict (record { time = 0; mask = 0 }) ys es) (sym blank);
+      level-start window strict (length xs) es
+      ∙ ap (λ ys. level_with window strict (record { time = 0; mask = 0 }) ys es) (sym blank);
   all_fit = fit;
-  ordered = in_order es order
+  ordered = in_order es order;
 }

@@ -1,8 +1,8 @@
 -- The greatest length of a funnel chain, by recursion over the events.
-use Rattle.std.proofs.Common.{◌≡◌, ℕ, zero, suc, ◌+◌, ◌<◌, ◌≤◌, max, Bool, true, false, cond, not, ◌&&◌, ◌||◌, List, [], ◌∷◌, ◌++◌, map, length, refl, sym, ap, ap₂, ◌∙◌, arith, le-leb}
+use Rattle.std.proofs.Common.{◌≡◌, ℕ, suc, ◌+◌, max, Bool, true, false, cond, ◌&&◌, List, [], ◌∷◌, ◌++◌, map, length, refl, sym, ap, ap₂, ◌∙◌, arith, le-leb}
 use Rattle.std.specs.Prelude.{filter, nat_le, nat_lt}
 use Rattle.agg_terms.specs.Values.{Event}
-use Rattle.agg_meaning.specs.Events.{sublists, is_in, in_turn, all_by, within, rising_times, is_funnel, greatest, funnel_level}
+use Rattle.agg_meaning.specs.Events.{sublists, is_in, in_turn, all_by, rising_times, is_funnel, greatest, funnel_level}
 
 -- the least time of the event that follows one of this time
 abbrev pub after : Bool → ℕ → ℕ

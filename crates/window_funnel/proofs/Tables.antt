@@ -1,11 +1,11 @@
 -- What the first times say of the events to come.
-use Rattle.std.proofs.Common.{◌≡◌, ℕ, zero, suc, ◌+◌, ◌<◌, ◌≤◌, ◌^◌, max, Bool, true, false, cond, not, ◌&&◌, ◌||◌, List, [], ◌∷◌, ◌++◌, map, length, Option, Some, None, ◌⊎◌, inl, inr, refl, sym, ap, ap₂, ◌∙◌, arith, le-leb}
-use Rattle.std.specs.Prelude.{nat_le, nat_lt, All}
+use Rattle.std.proofs.Common.{◌≡◌, ℕ, suc, ◌+◌, ◌<◌, ◌≤◌, max, Bool, true, false, cond, ◌&&◌, List, [], ◌∷◌, length, Option, Some, None, ◌⊎◌, inl, inr, refl, sym, ap, ap₂, ◌∙◌, arith, le-leb}
+use Rattle.std.specs.Prelude.{nat_le}
 use Rattle.std.proofs.lemmas.Bool.{cases_lt}
 use Rattle.std.proofs.lemmas.Bool.Decides.{nat_tests}
 use Rattle.agg_terms.specs.Values.{Event}
 use Rattle.agg_meaning.specs.Events.{is_in}
-use Rattle.window_funnel.specs.Starts.{later, lengthened, with_event, longest}
+use Rattle.window_funnel.specs.Starts.{later, lengthened, with_event}
 use Rattle.window_funnel.proofs.Reaches.{after, goes_on, reach, begun}
 
 -- the greatest length that the chains of a table come to, lengths from i on

@@ -1,5 +1,5 @@
 -- The greatest first time of a funnel chain of each length.
-use Rattle.std.specs.Prelude.{ℕ, suc, ◌+◌, max, cond, ◌&&◌, nat_le, List, [], ◌∷◌, Option, Some, None, map}
+use Rattle.std.specs.Prelude.{ℕ, suc, ◌+◌, max, cond, ◌&&◌, nat_le, List, [], ◌∷◌, Option, Some, None}
 use Rattle.agg_terms.specs.Values.{Event}
 use Rattle.agg_meaning.specs.Events.{is_in}
 

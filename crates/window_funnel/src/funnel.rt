@@ -1,13 +1,12 @@
 //! The level of a funnel.
-use value_types::Event;
-
-use crate::starts::{add_event, longest_of};
-
 ghost use Rattle.std.specs.Prelude.{◌≡◌, ◌≤◌, ◌<◌, ◌^◌, None, map, length, replicate};
 ghost use Rattle.agg_terms.specs.Lists.{Each, NotFalling};
 ghost use Rattle.agg_terms.specs.Trees.{by_time};
 ghost use Rattle.agg_meaning.specs.Events.{funnel_level};
 ghost use Rattle.value_types.specs.Folds.{event_of};
+
+use crate::starts::{add_event, longest_of};
+use value_types::Event;
 
 const MOST_CONDITIONS: usize = 32;
 

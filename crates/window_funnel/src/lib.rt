@@ -8,3 +8,6 @@ mod funnel;
 mod starts;
 
 pub use funnel::level;
+
+#[cfg(test)]
+mod tests;

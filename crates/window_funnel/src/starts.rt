@@ -1,10 +1,10 @@
 //! The first times of the chains of each length. Of two chains of one length the one that began later is never worse,
 //! so one first time a length is all that the events so far say of those to come.
-use value_types::Event;
-
 ghost use Rattle.std.specs.Prelude.{◌≡◌, ◌≤◌, ◌<◌, Some, length};
 ghost use Rattle.value_types.specs.Folds.{event_of};
 ghost use Rattle.window_funnel.specs.Starts.{later, lengthened, longest, with_event};
+
+use value_types::Event;
 
 fn later_of(a: Option<u64>, b: Option<u64>) -> Option<u64>
     ensures { result ≡ later a b }

@@ -1,14 +1,12 @@
-use Rattle.std.proofs.Common.{◌≡◌, ℕ, ◌+◌, ◌<◌, ◌≤◌, ◌≢◌, None, Option, Some, true, false, Bool, List, [], ◌∷◌, map, length, get_or, drop, replicate, sym, ap, ◌∙◌, subst, arith, pow_pos}
+use Rattle.std.proofs.Common.{◌≡◌, ℕ, ◌+◌, ◌<◌, ◌≢◌, Option, true, Bool, List, ◌∷◌, map, length, get_or, drop, sym, ◌∙◌, subst}
 use Rattle.std.proofs.lemmas.List.{drop_more, drop_all}
 use Rattle.agg_terms.specs.Values as family
 use Rattle.agg_meaning.specs.Events.{funnel_level}
 use Rattle.value_types.specs.declared.value.Event.{Event}
 use Rattle.value_types.specs.Folds.{event_of}
-use Rattle.window_funnel.proofs.Joined.{Going, going-joined, going-next, going-end, going-start, joined}
-use Rattle.window_funnel.specs.Starts.{with_event}
+use Rattle.window_funnel.proofs.Joined.{Going, going-joined, going-next, going-end, going-start}
 use Rattle.window_funnel.proofs.funnel.level_from.Goals as goal
 use Rattle.window_funnel.proofs.funnel.level_from.Goals.{then-strict+then-event-waiting, else-strict, else-strict-via-then-strict+else-event-waiting, else-strict-via-else-strict}
-
 
 -- the events from a place on begin with the event there
 at_event : (window : ℕ) (strict : Bool) (n whole : ℕ) (p : family.Event) (xs : List (Option ℕ)) (events : List Event) (i : ℕ) → i < length events → Going window strict n whole p xs (map event_of (drop i events)) → Going window strict n whole p xs (event_of (get_or events i (record { time = 0; mask = 0 })) ∷ map event_of (drop (i + 1) events))
@@ -28,15 +26,15 @@ loop-event-preserved c =
     let later = map event_of (drop (i + 1) c.args.events.now) in
     let g = at_event c.args.window c.args.strict n whole p c.loop-event.starts c.args.events.now i c.loop-event-test.true c.loop-event.invariant in
     elim c.if-strict.branch [
-      then-strict+then-event-waiting w ↦
-        rw (w.starts-is, w.waiting-is) (going-joined c.args.window c.args.strict n whole p e c.loop-event.starts later g w.if-strict.true w.if-event-waiting.true)
-    | else-strict w ↦
-        (let apart : c.args.strict ≡ true → p.time ≢ e.time =
+      | then-strict+then-event-waiting w ↦
+          rw (w.starts-is, w.waiting-is) (going-joined c.args.window c.args.strict n whole p e c.loop-event.starts later g w.if-strict.true w.if-event-waiting.true)
+      | else-strict w ↦
+          (let apart : c.args.strict ≡ true → p.time ≢ e.time =
           elim w.else-strict.branch [
-            else-strict-via-then-strict+else-event-waiting v ↦ (λ (s : c.args.strict ≡ true) (h : p.time ≡ e.time). v.if-event-waiting.false (sym h))
-          | else-strict-via-else-strict v ↦ (λ (s : c.args.strict ≡ true) (h : p.time ≡ e.time). absurd (cc (s, v.if-strict.false)))
+            | else-strict-via-then-strict+else-event-waiting v ↦ (λ (s : c.args.strict ≡ true) (h : p.time ≡ e.time). v.if-event-waiting.false (sym h))
+            | else-strict-via-else-strict v ↦ (λ (s : c.args.strict ≡ true) (h : p.time ≡ e.time). absurd (cc (s, v.if-strict.false)))
           ] in
-        rw (w.starts-is, w.waiting-is, w.add_event.ensures) (going-next c.args.window c.args.strict n whole p e c.loop-event.starts later g apart))
+          rw (w.starts-is, w.waiting-is, w.add_event.ensures) (going-next c.args.window c.args.strict n whole p e c.loop-event.starts later g apart))
     ]
 
 pub returns : goal.returns

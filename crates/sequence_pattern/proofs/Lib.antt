@@ -1,0 +1,5 @@
+pub mod Below
+pub mod Ends
+pub mod Seen
+pub mod Taken
+pub mod Ended
