@@ -1,0 +1,3 @@
+mod Quotes
+mod Digits
+mod Skips

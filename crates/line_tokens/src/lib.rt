@@ -1,0 +1,11 @@
+//! The tokens of a line, one after another, with the place of each.
+//! specs/Tokens.antt says which tokens a text has.
+#![tactic(auto)]
+
+mod numbers;
+mod quote;
+#[cfg(test)]
+mod tests;
+mod token;
+
+pub use token::{Placed, Token, next_token};

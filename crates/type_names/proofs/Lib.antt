@@ -1,0 +1,5 @@
+mod WordsRead
+mod KindNames
+mod Found
+mod Only
+mod Judged

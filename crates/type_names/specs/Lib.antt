@@ -1,0 +1,4 @@
+pub mod Reads
+pub mod TypeTexts
+pub mod Judging
+pub mod Syntax
