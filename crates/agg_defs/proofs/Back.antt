@@ -4,7 +4,9 @@ use Rattle.agg_terms.specs.Chains as terms
 use Rattle.agg_meaning.specs.Results.{state_type}
 use Rattle.agg_typing.specs.Legal.{is_legal_type}
 use Rattle.agg_typing.specs.Promises.{IsLegalCall}
-use Rattle.agg_typing.proofs.Results.{state_type_is_of_legal}
+use Rattle.agg_terms.specs.Types.{inward}
+use Rattle.agg_typing.proofs.Results.{state_type_is_of_legal, state_type_legal}
+use Rattle.agg_defs.specs.Parts.{Parts, IsTypedCall, is_state_type, IsStateType}
 use Rattle.value_types.specs.declared.chain.Chain.{Chain}
 use Rattle.value_types.specs.declared.ty.Ty.{Ty}
 use Rattle.value_types.specs.declared.ty.Ty.TheOpen.{Ty-F}
@@ -36,3 +38,23 @@ state_parts t c d ts us e f g h =
         subst (λ (zs : List terms.Ty). state_type (chain_of c) zs ≡ terms.StateOf (chain_of c) (terms.tys image)) same r.1 in
     let here : IsMadeOf t c ts = record { legal = parts; state = whole ∙ sym state } in
     subst (λ (zs : List Ty). IsMadeOf t d zs) (sym g) (subst (λ (z : Chain). IsMadeOf t z ts) (sym f) here)
+
+-- the states of every chain have a state type
+is_state : (c : terms.Chain) (ts : List terms.Ty) → is_state_type (state_type c ts) ≡ true
+is_state (terms.State c) ts = is_state c ts
+is_state (terms.Merge c) ts = is_state c (inward (terms.Merge c) ts)
+is_state (terms.Of f) ts = refl
+is_state (terms.If c) ts = refl
+is_state (terms.Array c) ts = refl
+is_state (terms.MapOf c) ts = refl
+is_state (terms.ForEach c) ts = refl
+is_state (terms.OrNull c) ts = refl
+is_state (terms.OrDefault c) ts = refl
+is_state (terms.Distinct c) ts = refl
+is_state (terms.Resample start end step c) ts = refl
+
+pub typed_state : (p : Parts) → IsTypedCall p → IsStateType p.state_type
+typed_state p i = record {
+  of_states = ap is_state_type i.state_is ∙ is_state (chain_of p.chain) (map ty_of p.args);
+  legal = ap is_legal_type i.state_is ∙ state_type_legal (chain_of p.chain) (map ty_of p.args) i.legal;
+}

@@ -86,6 +86,7 @@ impl Legal {
     pub fn state_type(&self) -> &Ty
         ensures lent { result.now ≡ self.now.state_type }
         ensures typed { IsTypedCall self.now }
+        ensures of_states { IsStateType self.now.state_type }
     {
         &self.state
     }

@@ -14,6 +14,9 @@ mod plan;
 mod schema;
 mod views;
 
+#[cfg(test)]
+mod tests;
+
 pub use agg_meaning::law_states;
 pub use agg_typing::law_typing;
 pub use legal::Legal;

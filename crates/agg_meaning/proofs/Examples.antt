@@ -3,7 +3,7 @@ use Rattle.std.proofs.Common.{◌≡◌, ℕ, pos, negsuc, true, false, List, []
 use Rattle.std.specs.Int.{int_wrap}
 use mir.Syntax.{w8}
 use Rattle.agg_terms.specs.Values.{Value, Num, Bytes, Nil, list_value}
-use Rattle.agg_terms.specs.Chains.{Chain, Count, Sum, Min, Max, ArgMin, ArgMax, GroupArray, UniqExact, QuantileExact, WindowFunnel, SequenceMatch, Retention, GroupBit, And, Or, Xor, Cond, Any, Next, Gap, Time, Above, At, AtOrAbove, BelowOrAt, Of, Ty, Whole, Signed, Str, Arr, Nullable}
+use Rattle.agg_terms.specs.Chains.{Chain, Count, Sum, Min, Max, ArgMin, ArgMax, GroupArray, UniqExact, QuantileExact, WindowFunnel, SequenceMatch, Retention, GroupBit, And, Or, Xor, Cond, Any, Next, Gap, Time, Above, At, AtOrAbove, Below, BelowOrAt, Of, Ty, Whole, Signed, Str, Arr, Nullable}
 use Rattle.agg_terms.specs.Order.{compare}
 use Rattle.agg_meaning.specs.Feeds.{opened}
 use Rattle.agg_meaning.specs.Suffixes.{meaning}
@@ -297,6 +297,39 @@ match_neighbours_yes = refl
 match_neighbours_far : over (Of (SequenceMatch (record { items = Cond 1 ∷ Cond 2 ∷ Cond 3 ∷ []; links = Time BelowOrAt 5 ∷ Time BelowOrAt 5 ∷ [] }))) (Whole 32 ∷ Whole 8 ∷ Whole 8 ∷ Whole 8 ∷ []) ((n 0 ∷ n 1 ∷ n 0 ∷ n 0 ∷ []) ∷ (n 5 ∷ n 0 ∷ n 1 ∷ n 0 ∷ []) ∷ (n 10 ∷ n 0 ∷ n 0 ∷ n 1 ∷ []) ∷ []) ≡ n 1
 unfolding compare
 match_neighbours_far = refl
+
+-- each comparison at its edge
+match_above_edge : over (Of (SequenceMatch (record { items = Cond 1 ∷ Cond 2 ∷ []; links = Time Above 5 ∷ [] }))) (Whole 32 ∷ Whole 8 ∷ Whole 8 ∷ []) ((n 0 ∷ n 1 ∷ n 0 ∷ []) ∷ (n 5 ∷ n 0 ∷ n 1 ∷ []) ∷ []) ≡ n 0
+unfolding compare
+match_above_edge = refl
+
+match_above : over (Of (SequenceMatch (record { items = Cond 1 ∷ Cond 2 ∷ []; links = Time Above 5 ∷ [] }))) (Whole 32 ∷ Whole 8 ∷ Whole 8 ∷ []) ((n 0 ∷ n 1 ∷ n 0 ∷ []) ∷ (n 6 ∷ n 0 ∷ n 1 ∷ []) ∷ []) ≡ n 1
+unfolding compare
+match_above = refl
+
+match_below_edge : over (Of (SequenceMatch (record { items = Cond 1 ∷ Cond 2 ∷ []; links = Time Below 5 ∷ [] }))) (Whole 32 ∷ Whole 8 ∷ Whole 8 ∷ []) ((n 0 ∷ n 1 ∷ n 0 ∷ []) ∷ (n 5 ∷ n 0 ∷ n 1 ∷ []) ∷ []) ≡ n 0
+unfolding compare
+match_below_edge = refl
+
+match_below : over (Of (SequenceMatch (record { items = Cond 1 ∷ Cond 2 ∷ []; links = Time Below 5 ∷ [] }))) (Whole 32 ∷ Whole 8 ∷ Whole 8 ∷ []) ((n 0 ∷ n 1 ∷ n 0 ∷ []) ∷ (n 4 ∷ n 0 ∷ n 1 ∷ []) ∷ []) ≡ n 1
+unfolding compare
+match_below = refl
+
+match_at : over (Of (SequenceMatch (record { items = Cond 1 ∷ Cond 2 ∷ []; links = Time At 5 ∷ [] }))) (Whole 32 ∷ Whole 8 ∷ Whole 8 ∷ []) ((n 0 ∷ n 1 ∷ n 0 ∷ []) ∷ (n 5 ∷ n 0 ∷ n 1 ∷ []) ∷ []) ≡ n 1
+unfolding compare
+match_at = refl
+
+match_at_least : over (Of (SequenceMatch (record { items = Cond 1 ∷ Cond 2 ∷ []; links = Time AtOrAbove 5 ∷ [] }))) (Whole 32 ∷ Whole 8 ∷ Whole 8 ∷ []) ((n 0 ∷ n 1 ∷ n 0 ∷ []) ∷ (n 5 ∷ n 0 ∷ n 1 ∷ []) ∷ []) ≡ n 1
+unfolding compare
+match_at_least = refl
+
+match_at_most : over (Of (SequenceMatch (record { items = Cond 1 ∷ Cond 2 ∷ []; links = Time BelowOrAt 5 ∷ [] }))) (Whole 32 ∷ Whole 8 ∷ Whole 8 ∷ []) ((n 0 ∷ n 1 ∷ n 0 ∷ []) ∷ (n 5 ∷ n 0 ∷ n 1 ∷ []) ∷ []) ≡ n 1
+unfolding compare
+match_at_most = refl
+
+match_past_most : over (Of (SequenceMatch (record { items = Cond 1 ∷ Cond 2 ∷ []; links = Time BelowOrAt 5 ∷ [] }))) (Whole 32 ∷ Whole 8 ∷ Whole 8 ∷ []) ((n 0 ∷ n 1 ∷ n 0 ∷ []) ∷ (n 6 ∷ n 0 ∷ n 1 ∷ []) ∷ []) ≡ n 0
+unfolding compare
+match_past_most = refl
 
 -- the first condition and another, each met in some row
 retention_first : over (Of Retention) (Whole 8 ∷ Whole 8 ∷ Whole 8 ∷ []) ((n 1 ∷ n 0 ∷ n 0 ∷ []) ∷ (n 0 ∷ n 0 ∷ n 1 ∷ []) ∷ []) ≡ list_value (n 1 ∷ n 0 ∷ n 1 ∷ [])

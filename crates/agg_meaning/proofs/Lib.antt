@@ -12,6 +12,7 @@ pub mod Keys
 pub mod LeafFormed
 pub mod LeafLaws
 pub mod LeafTrees
+pub mod LegalExamples
 pub mod Links
 pub mod Places
 pub mod Slots

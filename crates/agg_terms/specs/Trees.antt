@@ -1,4 +1,4 @@
--- Values of a type, and the state trees of a chain, by cases.
+-- Values of a type, and the state trees of a chain, by cases: this project's own choice of what a stored state holds.
 use Rattle.std.specs.Prelude.{ℕ, zero, suc, ◌^◌, pos, Bool, true, false, List, [], ◌∷◌, map, length, ℤ, Option, Some, None, ◌≡◌, ◌⊎◌, ◌<◌, ◌≤◌, FitsSigned}
 use Rattle.std.specs.declared.cmp.Ordering.{Ordering}
 use Rattle.std.specs.Ordering.{nat_cmp}
@@ -9,19 +9,22 @@ use Rattle.agg_terms.specs.Values.{Bytes, Cell, Empty, Event, Events, Nil, Num, 
 use Rattle.agg_terms.specs.Types.{bare, conditions, first_type, intervals, inward, is_signed, key_type}
 use Rattle.agg_terms.specs.Order.{compare, compare_rows}
 
+-- whether a mask has a bit
 abbrev pub is_one : ℕ → Bool
 is_one zero = false
 is_one (suc m) = true
 
+-- events by time alone
 abbrev pub by_time : Event → Event → Ordering
 by_time a b = nat_cmp a.time b.time
 
--- a number is a word, another value a tuple of it
+-- the tree of one value, or of none: a number is a word, another value a tuple of it
 abbrev pub one_tree : Option Value → Tree
 one_tree None = Empty
 one_tree (Some (Num n)) = Word n
 one_tree (Some v) = tuple_tree (v ∷ [])
 
+-- the tree of two values, or of none
 abbrev pub pair_tree : Option (Value × Value) → Tree
 pair_tree None = Empty
 pair_tree (Some p) = tuple_tree (p.0 ∷ p.1 ∷ [])
@@ -42,10 +45,12 @@ IsRow [] [] = Unit {0}
 IsRow (t ∷ ts) (v ∷ vs) = IsPlain (bare t) v × IsRow ts vs
 IsRow _ _ = ⊥
 
+-- a word of sum: a number of Int64 where the argument is signed, and of UInt64 where it is not
 abbrev pub IsWord : Bool → ℤ → Type 0
 IsWord true z = FitsSigned w64 z
 IsWord false z = (k : ℕ) × (z ≡ pos k) × (k < 2 ^ 64)
 
+-- no more than the limit, if there is one
 abbrev pub IsUpTo : Option ℕ → ℕ → Type 0
 IsUpTo None n = Unit {0}
 IsUpTo (Some most) n = n ≤ most
@@ -54,6 +59,7 @@ IsUpTo (Some most) n = n ≤ most
 abbrev pub IsEvent : ℕ → Event → Type 0
 IsEvent n e = (e.time < 2 ^ 64) × (is_one e.mask ≡ true) × (e.mask < 2 ^ n)
 
+-- no rows, or events by time, each of which meets some condition and none beyond the n
 abbrev pub IsEventTree : ℕ → Tree → Type 0
 IsEventTree n t = (t ≡ Empty) ⊎ ((es : List Event) × (t ≡ Events es) × Each (IsEvent n) es × NotFalling by_time es)
 

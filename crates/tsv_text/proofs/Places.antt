@@ -44,6 +44,6 @@ next_cut line text field places more start (Some after) h fields start_is more_i
     let next : (length line - length text) + length field + 1 ≡ length line - length after.now = omega (arith, h.0, whole) in (
       omega (arith, h.0, whole),
       h.1 ∙ ap (λ fs. places ++ places_from (length line - length text) fs) fields
-      ∙ ap (λ n. places ++ (length line - length text, length line - length text + length field) ∷ places_from n (fields_of after.now)) next
-      ∙ sym (append_assoc places _ _) ∙ ap (λ x. x ++ places_from (length line - length after.now) (fields_of after.now)) (sym (more_is ∙ ap (λ s. places ++ (s, s + length field) ∷ []) start_is)),
+          ∙ ap (λ n. places ++ (length line - length text, length line - length text + length field) ∷ places_from n (fields_of after.now)) next
+          ∙ sym (append_assoc places _ _) ∙ ap (λ x. x ++ places_from (length line - length after.now) (fields_of after.now)) (sym (more_is ∙ ap (λ s. places ++ (s, s + length field) ∷ []) start_is)),
     )

@@ -52,5 +52,4 @@ pub fn escape(alloc: Global, text: &[u8]) -> Result<Bytes, OutOfMemory>
 /// What is written stands for the bytes for which it was written.
 pub fn law_round_trip()
     ensures { (bytes : List ℕ) → IsUnescaped (escaped bytes) (Ok bytes) }
-{
-}
+{}

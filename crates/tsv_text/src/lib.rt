@@ -5,9 +5,9 @@
 mod escaping;
 mod fault;
 mod lines;
-mod unescaping;
 #[cfg(test)]
 mod tests;
+mod unescaping;
 
 pub use escaping::{escape, law_round_trip};
 pub use fault::TextFault;

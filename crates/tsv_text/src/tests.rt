@@ -1,4 +1,4 @@
-use crate::{escape, split_fields, unescape, TextFault};
+use crate::{TextFault, escape, split_fields, unescape};
 use std::test::Fail;
 use std::vec::Vec;
 
@@ -14,20 +14,29 @@ fn every_escape_is_undone(rt: HostRuntime) -> Result<(), Fail> {
     let bytes = unescape(rt.alloc(), b"a\\tb\\x41\\q")?;
     assert_eq!(rt; bytes.as_slice(), b"a\tbAq".as_slice());
     let all = unescape(rt.alloc(), b"\\b\\f\\r\\n\\t\\0\\'\\\\\\a\\v\\xfF")?;
-    assert_eq!(rt; all.as_slice(), [8, 12, 13, 10, 9, 0, 39, 92, 7, 11, 255].as_slice());
+    assert_eq!(rt;
+        all.as_slice(),
+        [8, 12, 13, 10, 9, 0, 39, 92, 7, 11, 255].as_slice()
+    );
     Ok(())
 }
 
 #[test]
 fn a_field_without_a_backslash_is_as_it_stands(rt: HostRuntime) -> Result<(), Fail> {
     assert_eq!(rt; unescape(rt.alloc(), b"")?.as_slice(), b"".as_slice());
-    assert_eq!(rt; unescape(rt.alloc(), &[255, 0, 200])?.as_slice(), [255, 0, 200].as_slice());
+    assert_eq!(rt;
+        unescape(rt.alloc(), &[255, 0, 200])?.as_slice(),
+        [255, 0, 200].as_slice()
+    );
     Ok(())
 }
 
 #[test]
 fn escapes_are_undone_once(rt: HostRuntime) -> Result<(), Fail> {
-    assert_eq!(rt; unescape(rt.alloc(), b"\\\\n")?.as_slice(), b"\\n".as_slice());
+    assert_eq!(rt;
+        unescape(rt.alloc(), b"\\\\n")?.as_slice(),
+        b"\\n".as_slice()
+    );
     Ok(())
 }
 
@@ -44,17 +53,32 @@ fn the_place_of_a_fault_is_its_backslash(rt: HostRuntime) {
 
 #[test]
 fn what_is_written_has_escapes(rt: HostRuntime) -> Result<(), Fail> {
-    assert_eq!(rt; escape(rt.alloc(), b"a\t'")?.as_slice(), b"a\\t\\'".as_slice());
-    assert_eq!(rt; escape(rt.alloc(), &[8, 12, 13, 10, 0, 92, 7, 255])?.as_slice(), b"\\b\\f\\r\\n\\0\\\\\x07\xff".as_slice());
+    assert_eq!(rt;
+        escape(rt.alloc(), b"a\t'")?.as_slice(),
+        b"a\\t\\'".as_slice()
+    );
+    assert_eq!(rt;
+        escape(rt.alloc(), &[8, 12, 13, 10, 0, 92, 7, 255])?.as_slice(),
+        b"\\b\\f\\r\\n\\0\\\\\x07\xff".as_slice()
+    );
     assert_eq!(rt; escape(rt.alloc(), b"")?.as_slice(), b"".as_slice());
     Ok(())
 }
 
 #[test]
 fn fields_stand_between_tabs(rt: HostRuntime) -> Result<(), Fail> {
-    assert_eq!(rt; split_fields(rt.alloc(), b"a\t")?.as_slice(), [(0, 1), (2, 2)].as_slice());
-    assert_eq!(rt; split_fields(rt.alloc(), b"")?.as_slice(), [(0, 0)].as_slice());
-    assert_eq!(rt; split_fields(rt.alloc(), b"\tab\tc")?.as_slice(), [(0, 0), (1, 3), (4, 5)].as_slice());
+    assert_eq!(rt;
+        split_fields(rt.alloc(), b"a\t")?.as_slice(),
+        [(0, 1), (2, 2)].as_slice()
+    );
+    assert_eq!(rt;
+        split_fields(rt.alloc(), b"")?.as_slice(),
+        [(0, 0)].as_slice()
+    );
+    assert_eq!(rt;
+        split_fields(rt.alloc(), b"\tab\tc")?.as_slice(),
+        [(0, 0), (1, 3), (4, 5)].as_slice()
+    );
     Ok(())
 }
 

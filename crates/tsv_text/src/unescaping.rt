@@ -102,5 +102,4 @@ pub fn unescape(alloc: Global, field: &[u8]) -> Result<Bytes, TextFault>
 /// A field has one answer: it doesn't stand for two texts, nor for a text and a fault, and its first fault is at one place.
 pub fn law_one_answer()
     ensures { (field : List ℕ) (one other : Result (List ℕ) TextFault) → IsUnescaped field one → IsUnescaped field other → IsSameAnswer one other }
-{
-}
+{}
