@@ -35,7 +35,7 @@ state_parts t c d ts us e f g h =
     let same : terms.tys_list (terms.tys image) ≡ image = tys_back image in
     let parts : IsLegalCall (chain_of c) image = subst (IsLegalCall (chain_of c)) same r.0 in
     let state : state_type (chain_of c) image ≡ terms.StateOf (chain_of c) (terms.tys image) =
-        subst (λ (zs : List terms.Ty). state_type (chain_of c) zs ≡ terms.StateOf (chain_of c) (terms.tys image)) same r.1 in
+    subst (λ (zs : List terms.Ty). state_type (chain_of c) zs ≡ terms.StateOf (chain_of c) (terms.tys image)) same r.1 in
     let here : IsMadeOf t c ts = record { legal = parts; state = whole ∙ sym state } in
     subst (λ (zs : List Ty). IsMadeOf t d zs) (sym g) (subst (λ (z : Chain). IsMadeOf t z ts) (sym f) here)
 

@@ -22,10 +22,10 @@ pub record Parts : Type 0 where
 abbrev pub parts_code : Coded Parts
 parts_code =
     code_by (Chain × (List Ty × (Ty × Ty)))
-      (coded× chain.the_row.coded (coded× (coded_list ty.the_row.coded) (coded× ty.the_row.coded ty.the_row.coded)))
-      (λ p. (p.chain, (p.args, (p.result, p.state_type))))
-      (λ q. record { chain = q.0; args = q.1.0; result = q.1.1.0; state_type = q.1.1.1 })
-      (λ _. refl)
+    (coded× chain.the_row.coded (coded× (coded_list ty.the_row.coded) (coded× ty.the_row.coded ty.the_row.coded)))
+    (λ p. (p.chain, (p.args, (p.result, p.state_type))))
+    (λ q. record { chain = q.0; args = q.1.0; result = q.1.1.0; state_type = q.1.1.1 })
+    (λ _. refl)
 
 -- the typing definitions give these four: the chain is legal over legal types, and two types follow
 pub record IsTypedCall (p : Parts) : Type 0 where

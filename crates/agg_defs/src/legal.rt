@@ -9,7 +9,7 @@ ghost use Rattle.agg_defs.specs.Parts.{IsTypedCall, IsStateType};
 use crate::results::{result_over, state_over};
 use std::alloc::Global;
 use std::marker::Model;
-use value_types::{copy_types, Chain, OutOfMemory, Seq, Ty};
+use value_types::{Chain, OutOfMemory, Seq, Ty, copy_types};
 
 /// A chain that breaks no rule over its argument types, with the types of its result and of its states.
 ///
@@ -30,13 +30,9 @@ impl Model for Legal {
 
     ghost coded = { parts_code };
 
-    ghost view = {
-        λ l. record { chain = l.chain; args = l.args; result = l.result; state_type = l.state }
-    };
+    ghost view = { λ l. record { chain = l.chain; args = l.args; result = l.result; state_type = l.state } };
 
-    ghost invariant = {
-        λ l. IsTypedCall (record { chain = l.chain; args = l.args; result = l.result; state_type = l.state })
-    };
+    ghost invariant = { λ l. IsTypedCall (record { chain = l.chain; args = l.args; result = l.result; state_type = l.state }) };
 }
 
 impl Legal {

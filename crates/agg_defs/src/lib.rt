@@ -12,10 +12,9 @@ mod results;
 // queries and scripts
 mod plan;
 mod schema;
-mod views;
-
 #[cfg(test)]
 mod tests;
+mod views;
 
 pub use agg_meaning::law_states;
 pub use agg_typing::law_typing;

@@ -6,7 +6,7 @@ ghost use Rattle.agg_defs.specs.Reached.{types_of, part_of};
 ghost use Rattle.value_types.specs.Folds.{ty_of};
 
 use std::alloc::Global;
-use value_types::{element, map_item, OutOfMemory, Ty};
+use value_types::{OutOfMemory, Ty, element, map_item};
 
 /// A type that reaches a link.
 #[derive(Clone, Copy)]
@@ -54,12 +54,18 @@ pub fn front<'b, 'a>(args: &'b [Reached<'a>]) -> &'b [Reached<'a>]
 }
 
 /// The part of each that a suffix passes inward.
-pub fn within<'a>(alloc: Global, passed: Passed, args: &[Reached<'a>]) -> Result<Vec<Reached<'a>>, OutOfMemory>
+pub fn within<'a>(
+    alloc: Global,
+    passed: Passed,
+    args: &[Reached<'a>],
+) -> Result<Vec<Reached<'a>>, OutOfMemory>
     ensures { IfOk result (λ all. types_of all.items ≡ map (part_of passed) (types_of args.now)) }
 {
     let mut all = Vec::new(alloc);
     for arg in args {
-        all.push(Reached { ty: passed.of(arg.ty) })?;
+        all.push(Reached {
+            ty: passed.of(arg.ty),
+        })?;
     }
     Ok(all)
 }

@@ -5,9 +5,11 @@ ghost use Rattle.agg_meaning.specs.Results as meaning;
 ghost use Rattle.agg_defs.specs.Reached.{types_of};
 ghost use Rattle.value_types.specs.Folds.{chain_of, leaf_of, ty_of};
 
-use crate::reached::{all_reached, front, within, Passed, Reached};
+use crate::reached::{Passed, Reached, all_reached, front, within};
 use std::alloc::Global;
-use value_types::{bare, is_nullable, is_signed, map_key, Boxed, Chain, Leaf, OutOfMemory, Seq, Ty};
+use value_types::{
+    Boxed, Chain, Leaf, OutOfMemory, Seq, Ty, bare, is_nullable, is_signed, map_key,
+};
 
 fn any_null(args: &[Reached<'_>]) -> bool
     ensures { result ≡ types.any_null (types_of args.now) }
@@ -83,11 +85,23 @@ fn leaf_result(alloc: Global, leaf: &Leaf, args: &[Reached<'_>]) -> Result<Ty, O
         Leaf::Retention => Ok(Ty::Arr(Boxed::new(alloc, Ty::U8)?)),
         Leaf::GroupArray(_) => Ok(Ty::Arr(Boxed::new(alloc, bare_first(alloc, args)?)?)),
         Leaf::Sum => {
-            let ty = if first_is_signed(args) { Ty::I64 } else { Ty::U64 };
+            let ty = if first_is_signed(args) {
+                Ty::I64
+            } else {
+                Ty::U64
+            };
             nullable_if(alloc, any_null(args), ty)
         }
-        Leaf::Min | Leaf::Max | Leaf::ArgMin | Leaf::ArgMax => nullable_if(alloc, any_null(args), bare_first(alloc, args)?),
-        Leaf::BitAnd | Leaf::BitOr | Leaf::BitXor => nullable_if(alloc, any_null(args), bare_first(alloc, args)?),
+        Leaf::Min | Leaf::Max | Leaf::ArgMin | Leaf::ArgMax => nullable_if(
+            alloc,
+            any_null(args),
+            bare_first(alloc, args)?,
+        ),
+        Leaf::BitAnd | Leaf::BitOr | Leaf::BitXor => nullable_if(
+            alloc,
+            any_null(args),
+            bare_first(alloc, args)?,
+        ),
         Leaf::QuantileExact(_) => nullable_if(alloc, any_null(args), bare_first(alloc, args)?),
     }
 }

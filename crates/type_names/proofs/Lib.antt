@@ -3,3 +3,4 @@ mod KindNames
 mod Found
 mod Only
 mod Judged
+mod OneType

@@ -1,7 +1,8 @@
 //! The judge of type texts: token by token, with the goals that are still to be met.
 
-ghost use Rattle.std.specs.Prelude.{◌≡◌, ◌∷◌, [], length, IfOk};
-ghost use Rattle.line_tokens.specs.Tokens.{tokens_of};
+ghost use Rattle.std.specs.Prelude.{◌≡◌, ◌∷◌, [], List, length, IfOk};
+ghost use Rattle.line_tokens.specs.Tokens.{Token, tokens_of};
+ghost use Rattle.type_names.specs.TypeTexts.{Shape, IsType};
 ghost use Rattle.type_names.specs.Judging.{first_fault};
 ghost use Rattle.type_names.specs.Syntax.{IsTypeFault};
 ghost use Rattle.type_names.specs.declared.goal.Goal.TheVariants.{AnyType};
@@ -46,3 +47,8 @@ pub fn type_fault(alloc: Global, text: &[u8]) -> Result<Option<u64>, OutOfMemory
 {
     first_fault(alloc, text)
 }
+
+/// A text spells one type at most.
+pub fn law_one_type()
+    ensures { (tokens : List Token) (one other : Shape) → IsType tokens one → IsType tokens other → one ≡ other }
+{}

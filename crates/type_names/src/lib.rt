@@ -6,11 +6,10 @@
 mod chain_name;
 mod goal;
 mod judge;
-mod words;
-
 #[cfg(test)]
 mod tests;
+mod words;
 
 pub use chain_name::{NameFault, NameShape, read_chain_name};
-pub use judge::type_fault;
+pub use judge::{law_one_type, type_fault};
 pub use words::{function_name, suffix_name};

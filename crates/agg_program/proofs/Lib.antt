@@ -1,0 +1,9 @@
+pub mod Digits
+pub mod Readings
+pub mod Places
+pub mod FrontNumbers
+pub mod FrontRows
+pub mod StandingRows
+pub mod Meanings
+pub mod Takes
+pub mod Ends
