@@ -1,5 +1,5 @@
 -- All but the last of a list.
-use Rattle.std.proofs.Common.{◌≡◌, refl, ap, ℕ, zero, suc, ◌-◌, List, [], ◌∷◌, length, take, map, arith}
+use Rattle.std.proofs.Common.{◌≡◌, ap, ℕ, zero, suc, ◌-◌, List, [], ◌∷◌, length, take, map, arith}
 use Rattle.agg_terms.specs.Lists.{front}
 
 pub front-take : {X Y : Type 0} (f : X → Y) (xs : List X) (n : ℕ) → n ≡ length xs - 1 → map f (take n xs) ≡ front (map f xs)

@@ -1,5 +1,5 @@
 -- What the calls mean over rows, and what they give over columns.
-use Rattle.std.proofs.Common.{◌≡◌, ℕ, ◌+◌, ◌%◌, ◌^◌, ◌<◌, ℤ, pos, ◌+ℤ◌, Bool, true, false, List, [], ◌∷◌, ◌++◌, length, map, get_or, sum, cond, refl, sym, ap, ap₂, ◌∙◌, ◌&&◌, true≢false, arith}
+use Rattle.std.proofs.Common.{◌≡◌, ℕ, ◌%◌, ◌^◌, ◌<◌, ℤ, pos, ◌+ℤ◌, Bool, true, false, List, [], ◌∷◌, ◌++◌, length, map, get_or, sum, refl, sym, ap, ap₂, ◌∙◌, ◌&&◌, true≢false, arith}
 use Rattle.std.specs.List.{list_all}
 use Rattle.std.specs.Prelude.{filter}
 use Rattle.std.specs.Int.{int_rem_euclid}

@@ -1,5 +1,5 @@
 -- Bytes that are taken one piece after another.
-use Rattle.std.proofs.Common.{◌≡◌, ℕ, List, ◌++◌, Option, None, Some, sym, ap, ◌∙◌, append_assoc}
+use Rattle.std.proofs.Common.{ℕ, List, ◌++◌, Option, None, Some, sym, ap, ◌∙◌, append_assoc}
 use Rattle.std.specs.Io.KnownBytes.{Consumes}
 
 pub consumes-more : (first left rest : Option (List ℕ)) (xs ys : List ℕ) → Consumes first left xs → Consumes left rest ys → Consumes first rest (xs ++ ys)

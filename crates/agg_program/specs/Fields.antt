@@ -1,5 +1,5 @@
 -- What a field of a number of 64 bits says.
-use Rattle.std.specs.Prelude.{◌==◌, ℕ, ◌^◌, nat_lt, List, [], ◌∷◌, Bool, true, false, ◌&&◌, not, Result, Ok, Err, length, if◌then◌else◌}
+use Rattle.std.specs.Prelude.{◌==◌, ℕ, ◌^◌, nat_lt, List, [], ◌∷◌, Bool, false, ◌&&◌, Result, Ok, Err, if◌then◌else◌}
 use Rattle.std.specs.Char.{is_ascii_digit}
 use Rattle.std.specs.List.{list_all}
 use Rattle.std.specs.Str.Parse.{digits_value}

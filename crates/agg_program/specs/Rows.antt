@@ -1,5 +1,5 @@
 -- What rows say, as a reading of whole lists.
-use Rattle.std.specs.Prelude.{◌≡◌, ◌==◌, ℕ, ◌+◌, List, [], ◌∷◌, ◌++◌, Result, Ok, Err, Option, None, Some, length, if◌then◌else◌}
+use Rattle.std.specs.Prelude.{◌≡◌, ◌==◌, ℕ, ◌+◌, List, [], ◌∷◌, Result, Ok, Err, length, if◌then◌else◌}
 use Rattle.tsv_text.specs.Lines.{fields_of}
 use Rattle.agg_program.specs.Fields.{number_of}
 use Rattle.agg_program.specs.declared.status.RowWhy.TheVariants.{Field, Count}

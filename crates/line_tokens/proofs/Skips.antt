@@ -1,5 +1,5 @@
 -- The tokens behind the first one.
-use Rattle.std.proofs.Common.{◌≡◌, ℕ, zero, suc, ◌-◌, ◌<◌, Bool, true, false, cond, not, List, [], ◌∷◌, length, drop, Option, Some, None, refl, sym, ap, ◌∙◌, arith}
+use Rattle.std.proofs.Common.{◌≡◌, ℕ, zero, suc, ◌-◌, ◌<◌, Bool, true, false, cond, not, List, [], ◌∷◌, length, drop, Option, Some, refl, sym, ap, ◌∙◌, arith}
 use Rattle.line_tokens.specs.Tokens.{Token, Placed, token_at, and_more, tokens_behind, tokens_of, begins_token}
 
 tokens_behind-skip : (n : ℕ) (text : List ℕ) → tokens_behind n text ≡ tokens_of (drop n text)

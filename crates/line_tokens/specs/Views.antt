@@ -1,5 +1,5 @@
 -- What a token of the code is in the definitions.
-use Rattle.std.specs.Prelude.{◌≡◌, ℕ, ◌<◌, List, [], ◌∷◌, length, Option, Some, None}
+use Rattle.std.specs.Prelude.{ℕ}
 use Rattle.line_tokens.specs.Tokens.{word, integer, decimal, quoted, open_bracket, close_bracket, comma, bad, Placed, tokens_of}
 use Rattle.line_tokens.specs.Tokens as defined
 use Rattle.line_tokens.specs.declared.token.Token.{Token}

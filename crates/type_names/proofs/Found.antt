@@ -1,19 +1,17 @@
 -- What a stack says of the tokens that are left.
-use Rattle.std.proofs.Common.{◌≡◌, ℕ, List, [], ◌∷◌, ◌++◌, codes, Option, Some, None, Bool, true, false, Result, Ok, Err, refl, sym, ap, subst, ◌∙◌, append_assoc}
-use Rattle.std.proofs.lemmas.List.{append-nil}
+use Rattle.std.proofs.Common.{◌≡◌, ℕ, List, [], ◌∷◌, ◌++◌, codes, Option, Some, Bool, true, false, Ok, refl, ap, subst, ◌∙◌}
 use Rattle.first_fault.specs.Machine.{run}
 use Rattle.first_fault.specs.Grammar.{Then, InOrder}
-use Rattle.first_fault.proofs.Grammar.{push, lone, regroup, seen_as}
+use Rattle.first_fault.proofs.Grammar.{push, lone, regroup}
 use Rattle.first_fault.proofs.Machines.{letter_ok, end_ok}
-use Rattle.std.specs.Str.{bytes_eq}
-use Rattle.line_tokens.specs.Tokens.{Token, word, integer, decimal, quoted, open_bracket, close_bracket, comma, bad}
+use Rattle.line_tokens.specs.Tokens.{Token, word, open_bracket, close_bracket, comma}
 use Rattle.type_names.specs.TypeTexts.{Shape, plain, array, map_of, nullable, state, Shapes, none, and_one, is_plain_name, is_literal, literals_tokens, brackets, tokens_of, tokens_of_all, IsPlain, AreLiterals, ShapeFits, ShapesFit}
 use Rattle.type_names.specs.declared.goal.Kind.{Kind}
 use Rattle.type_names.specs.declared.goal.Kind.TheVariants.{PlainName, ArrayName, MapName, NullableName, StateName, OtherName}
 use Rattle.type_names.specs.declared.goal.Goal.{Goal}
 use Rattle.type_names.specs.declared.goal.Goal.TheVariants.{AnyType, PlainType, Opening, Closing, Dividing, Name, BehindName, OneLiteral, MoreLiterals, MoreTypes}
 use Rattle.type_names.specs.Judging.{kind_of, type_goals, some_if, step, done}
-use Rattle.type_names.proofs.KindNames.{IsKind, is_kind, same_bytes}
+use Rattle.type_names.proofs.KindNames.{IsKind, is_kind}
 
 abbrev pub Of : Goal → List Token → Type 0
 Of AnyType t = (ty : Shape) × ShapeFits ty × (t ≡ tokens_of ty)

@@ -1,11 +1,8 @@
 -- What is a type is accepted, and every stack can be emptied.
-use Rattle.std.proofs.Common.{◌≡◌, ℕ, List, [], ◌∷◌, ◌++◌, codes, Option, Some, None, Bool, true, false, Result, Ok, Err, refl, sym, ap, subst, ◌∙◌, append_assoc}
-use Rattle.std.proofs.lemmas.List.{append-nil}
-use Rattle.std.specs.Str.{bytes_eq}
-use Rattle.std.proofs.lemmas.Slice.Eq.{bytes_eq-Decides}
-use Rattle.first_fault.specs.Machine.{run, later, at_letter}
-use Rattle.line_tokens.specs.Tokens.{Token, word, integer, decimal, quoted, open_bracket, close_bracket, comma, bad}
-use Rattle.type_names.specs.TypeTexts.{Shape, plain, array, map_of, nullable, state, Shapes, none, and_one, is_plain_name, is_literal, literals_tokens, brackets, tokens_of, tokens_of_all, IsPlain, AreLiterals, ShapeFits, ShapesFit}
+use Rattle.std.proofs.Common.{◌≡◌, List, [], ◌∷◌, ◌++◌, codes, Ok, refl, sym, ap, subst, append_assoc}
+use Rattle.first_fault.specs.Machine.{run, later}
+use Rattle.line_tokens.specs.Tokens.{Token, word, integer, open_bracket, close_bracket, comma}
+use Rattle.type_names.specs.TypeTexts.{Shape, plain, array, map_of, nullable, state, Shapes, none, and_one, literals_tokens, brackets, tokens_of, tokens_of_all, IsPlain, AreLiterals, ShapeFits, ShapesFit}
 use Rattle.type_names.specs.declared.goal.Goal.{Goal}
 use Rattle.type_names.specs.declared.goal.Goal.TheVariants.{AnyType, PlainType, Opening, Closing, Dividing, Name, BehindName, OneLiteral, MoreLiterals, MoreTypes}
 use Rattle.type_names.specs.Judging.{step, done}

@@ -1,12 +1,12 @@
 -- The text of a type judged token by token, with the goals that are still to be met.
-use Rattle.std.specs.Prelude.{ℕ, ◌-◌, List, [], ◌∷◌, ◌++◌, codes, Option, Some, None, Bool, true, false, Result, if◌then◌else◌}
+use Rattle.std.specs.Prelude.{ℕ, ◌-◌, List, [], ◌∷◌, codes, Option, Some, None, Bool, true, false, if◌then◌else◌}
 use Rattle.std.specs.Str.{bytes_eq}
 use Rattle.line_tokens.specs.Tokens.{Placed}
 use Rattle.type_names.specs.declared.goal.Kind.{Kind}
 use Rattle.type_names.specs.declared.goal.Kind.TheVariants.{PlainName, ArrayName, MapName, NullableName, StateName, OtherName}
 use Rattle.type_names.specs.declared.goal.Goal.{Goal}
 use Rattle.type_names.specs.declared.goal.Goal.TheVariants.{AnyType, PlainType, Opening, Closing, Dividing, Name, BehindName, OneLiteral, MoreLiterals, MoreTypes}
-use Rattle.line_tokens.specs.Tokens.{Token, word, integer, decimal, quoted, open_bracket, close_bracket, comma, bad}
+use Rattle.line_tokens.specs.Tokens.{Token, word, open_bracket, close_bracket, comma}
 use Rattle.type_names.specs.TypeTexts.{is_plain_name, is_literal}
 
 -- What a name means where a type is to come.

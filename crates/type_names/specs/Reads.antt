@@ -1,5 +1,5 @@
 -- What the reader of names answers, where the definition says what a name spells or where it stops.
-use Rattle.std.specs.Prelude.{◌≡◌, ℕ, ◌<◌, ◌≤◌, List, length, Result, Ok, Err}
+use Rattle.std.specs.Prelude.{◌≡◌, ℕ, ◌<◌, ◌≤◌, length, Result, Ok, Err}
 use Rattle.agg_typing.specs.Names.{Shape}
 use Rattle.type_names.specs.declared.chain_name.NameShape.{NameShape}
 use Rattle.type_names.specs.declared.chain_name.NameFault.{NameFault}

@@ -1,5 +1,5 @@
 -- The place at which the text of a type is no such text.
-use Rattle.std.specs.Prelude.{◌≡◌, ℕ, zero, suc, ◌-◌, List, [], ◌∷◌, length, map, Option, Some, None, Result, Ok, Err}
+use Rattle.std.specs.Prelude.{◌≡◌, ℕ, zero, suc, ◌-◌, List, [], ◌∷◌, length, map, Option, Some, None, Err}
 use Rattle.first_fault.specs.FirstFault.{IsReading}
 use Rattle.line_tokens.specs.Tokens.{Token, Placed, tokens_of}
 use Rattle.type_names.specs.TypeTexts.{Shape, IsType}

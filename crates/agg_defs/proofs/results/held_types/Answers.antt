@@ -1,4 +1,4 @@
-use Rattle.std.proofs.Common.{◌≡◌, ◌∙◌, sym, ap, map}
+use Rattle.std.proofs.Common.{◌∙◌, sym, ap, map}
 use Rattle.agg_terms.specs.Types.{state_args}
 use Rattle.value_types.specs.Folds.{ty_of}
 use Rattle.agg_defs.proofs.Back.{tys_back, state_is}

@@ -1,4 +1,4 @@
-use Rattle.std.proofs.Common.{◌*◌, ◌+◌, ◌-◌, ◌≤◌, get_or, arith}
+use Rattle.std.proofs.Common.{arith}
 use Rattle.agg_program.proofs.Digits.{whole_is_above}
 use Rattle.agg_program.proofs.fields.value_of.Goals as goal
 

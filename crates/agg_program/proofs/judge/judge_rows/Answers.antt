@@ -1,4 +1,4 @@
-use Rattle.std.proofs.Common.{◌≡◌, ◌∙◌, ℕ, List, Ok, ap, sym, map, length, arith}
+use Rattle.std.proofs.Common.{◌∙◌, Ok, ap, sym, arith}
 use Rattle.std.proofs.lemmas.List.{length-map}
 use Rattle.agg_program.specs.Run.{judged_rows}
 use Rattle.agg_program.proofs.Meanings.{all-known, line-columns}

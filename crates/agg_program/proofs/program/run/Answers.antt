@@ -1,4 +1,4 @@
-use Rattle.std.proofs.Common.{◌≡◌, ◌∙◌, ℕ, List, Bool, true, false, map, take, string_bytes, Ok, Err, sym, ap, arith}
+use Rattle.std.proofs.Common.{◌≡◌, ◌∙◌, true, false, map, string_bytes, Ok, Err, arith}
 use Rattle.std.proofs.lemmas.Option.{IfSome_then}
 use Rattle.agg_program.specs.declared.status.Status.TheVariants as status
 use Rattle.agg_program.specs.Run.{are_query, outcome, limited, IsVerdict}

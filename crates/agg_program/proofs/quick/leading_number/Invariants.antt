@@ -1,4 +1,4 @@
-use Rattle.std.proofs.Common.{ℕ, length}
+use Rattle.std.proofs.Common.{length}
 use Rattle.agg_program.proofs.FrontNumbers.{DigitsSoFar}
 use Rattle.agg_program.proofs.quick.leading_number.Given as goal
 

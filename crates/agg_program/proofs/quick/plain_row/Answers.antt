@@ -1,7 +1,6 @@
-use Rattle.std.proofs.Common.{◌≡◌, ℕ, List, ◌∷◌, ◌++◌, [], length, drop, length-append, sym, ap, ◌∙◌, arith, vec_len, vec_capacity}
+use Rattle.std.proofs.Common.{◌∷◌, [], drop, length-append, ◌∙◌, arith}
 use Rattle.std.proofs.lemmas.List.{take_rest}
-use Rattle.agg_program.specs.Quick.{BeginsWithRow}
-use Rattle.agg_program.proofs.FrontRows.{FieldsSoFar, field-then-tab, row-ends, line-ends, text-ends}
+use Rattle.agg_program.proofs.FrontRows.{field-then-tab, row-ends, line-ends, text-ends}
 use Rattle.agg_program.proofs.quick.plain_row.Goals as goal
 
 pub push_reserved-requires : goal.push_reserved-requires

@@ -1,4 +1,4 @@
-use Rattle.std.proofs.Common.{◌≡◌, ◌∙◌, ◌+◌, ◌++◌, List, ℕ, ap, length-drop, arith}
+use Rattle.std.proofs.Common.{◌∙◌, length-drop, arith}
 use Rattle.std.proofs.Math.Seq.{take-add}
 use Rattle.agg_program.proofs.Takes.{consumes-more}
 use Rattle.agg_program.proofs.read.read_all.Goals as goal

@@ -1,4 +1,4 @@
-use Rattle.std.proofs.Common.{◌≡◌, ◌≤◌, ℕ, List, Option, length, take, vec_len}
+use Rattle.std.proofs.Common.{◌≡◌, ◌≤◌, ℕ, List, Option, take, vec_len}
 use Rattle.std.specs.Io.KnownBytes.{Consumes}
 use Rattle.agg_program.proofs.read.read_all.Given as goal
 

@@ -1,4 +1,4 @@
-use Rattle.std.proofs.Common.{◌≡◌, ◌∙◌, sym, arith}
+use Rattle.std.proofs.Common.{◌∙◌, sym, arith}
 use Rattle.std.proofs.lemmas.List.{take_rest}
 use Rattle.agg_program.proofs.Places.{different-no, different-yet}
 use Rattle.agg_program.proofs.request.are_different.Goals as goal

@@ -1,5 +1,5 @@
-use Rattle.std.proofs.Common.{◌≡◌, ◌∙◌, ℕ, List, ap, sym, arith}
-use Rattle.tsv_text.specs.Lines.{fields_of, lines_of}
+use Rattle.std.proofs.Common.{◌∙◌, ap, arith}
+use Rattle.tsv_text.specs.Lines.{lines_of}
 use Rattle.agg_program.specs.Rows.{rows_from}
 use Rattle.agg_program.proofs.FrontRows.{row-of-count, row-of-fault, row-of-numbers, rows-refused, rows-step}
 use Rattle.agg_program.proofs.rows.judged_row.Goals as goal

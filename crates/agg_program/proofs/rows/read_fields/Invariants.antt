@@ -1,4 +1,4 @@
-use Rattle.std.proofs.Common.{◌≡◌, ◌+◌, ◌≤◌, length, Bor, Option, List, ℕ, None, Some, vec_len, vec_capacity}
+use Rattle.std.proofs.Common.{◌≡◌, ◌+◌, length, Bor, Option, List, ℕ, vec_len, vec_capacity}
 use Rattle.tsv_text.specs.Lines.{fields_of}
 use Rattle.agg_program.specs.Rows.{numbers_from}
 use Rattle.agg_program.proofs.Readings.{with_front, fields_left, bytes_left}

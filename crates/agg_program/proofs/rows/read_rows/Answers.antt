@@ -1,4 +1,4 @@
-use Rattle.std.proofs.Common.{◌+◌, ◌∙◌, ap, sym, arith, ◌≡◌, Ok}
+use Rattle.std.proofs.Common.{◌+◌, ◌∙◌, sym, arith}
 use Rattle.std.proofs.lemmas.Grind.{common_steps}
 use Rattle.agg_program.proofs.Readings.{rows-read}
 use Rattle.agg_program.proofs.rows.read_rows.Goals as goal

@@ -1,6 +1,6 @@
-use Rattle.std.proofs.Common.{◌≡◌, ◌∙◌, ap}
+use Rattle.std.proofs.Common.{◌∙◌, ap}
 use Rattle.value_types.specs.Folds.{ty_of}
-use Rattle.agg_defs.proofs.Back.{IsMadeOf, state_parts}
+use Rattle.agg_defs.proofs.Back.{state_parts}
 use Rattle.agg_defs.proofs.legal.Legal.of_state.Goals as goal
 
 pub make-requires-clause-legal : goal.make-requires-clause-legal

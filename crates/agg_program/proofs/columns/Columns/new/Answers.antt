@@ -1,4 +1,3 @@
-use Rattle.std.proofs.Common.{◌≡◌, map, arith}
 use Rattle.agg_program.proofs.StandingRows.{hold_none}
 use Rattle.agg_program.proofs.columns.Columns.new.Goals as goal
 

@@ -1,4 +1,4 @@
-use Rattle.std.proofs.Common.{◌≡◌, List, ℕ, map, replicate, [], vec_len}
+use Rattle.std.proofs.Common.{◌≡◌, map, replicate, [], vec_len}
 use Rattle.agg_program.proofs.columns.Columns.new.Given as goal
 
 abbrev pub invariant-loop : goal.invariant-loop

@@ -1,4 +1,4 @@
-use Rattle.std.proofs.Common.{◌≡◌, List, ℕ, map, length, sym, arith}
+use Rattle.std.proofs.Common.{sym, arith}
 use Rattle.std.proofs.lemmas.List.{length-map}
 use Rattle.agg_program.proofs.StandingRows.{push_kept}
 use Rattle.agg_program.proofs.columns.Columns.push_row.Goals as goal
