@@ -4,7 +4,8 @@ use Rattle.std.proofs.Math.Seq.{drop-length}
 use Rattle.std.proofs.lemmas.List.{drop_all}
 use Rattle.agg_terms.specs.Chains.{Any, Next, PatItem, PatLink, Pattern}
 use Rattle.agg_terms.specs.Values.{Event}
-use Rattle.agg_meaning.specs.Events.{sublists, placed, meets, linked, meet_items, meet_links, any_match, is_matched}
+use Rattle.agg_terms.specs.Lists.{numbered, some}
+use Rattle.agg_meaning.specs.Events.{sublists, meets, linked, meet_items, meet_links, is_match, is_matched}
 use Rattle.sequence_pattern.specs.Hits.{any_below, spot, next_hits, hit}
 use Rattle.sequence_pattern.proofs.Below.{any_below-same, any_below-or, any_below-and, any_below-none}
 
@@ -111,26 +112,26 @@ begin-any i ls is (e ∷ es) h =
     ∙ ap (λ b. meets i e.1 && b) (cont-any ls is e es h))
     (begin-any i ls is es h)
 
-any_match-any_of : (p : Pattern) (ss : List (List (ℕ × Event))) → any_match p ss ≡ any_of (λ s. meet_items p.items s && meet_links p.links s) ss
+some-any_of : (p : Pattern) (ss : List (List (ℕ × Event))) → some (is_match p) ss ≡ any_of (λ s. meet_items p.items s && meet_links p.links s) ss
 unfolding any_of
-any_match-any_of p [] = refl
-any_match-any_of p (s ∷ ss) = cond-or (meet_items p.items s && meet_links p.links s) ∙ ap (λ b. (meet_items p.items s && meet_links p.links s) || b) (any_match-any_of p ss)
+some-any_of p [] = refl
+some-any_of p (s ∷ ss) = cond-or (meet_items p.items s && meet_links p.links s) ∙ ap (λ b. (meet_items p.items s && meet_links p.links s) || b) (some-any_of p ss)
   where
-    cond-or : (b : Bool) → cond b true (any_match p ss) ≡ b || any_match p ss
+    cond-or : (b : Bool) → cond b true (some (is_match p) ss) ≡ b || some (is_match p) ss
     cond-or true = refl
     cond-or false = refl
 
 -- the events from a place on
 rest : List Event → ℕ → List (ℕ × Event)
-rest es n = placed n (drop n es)
+rest es n = numbered n (drop n es)
 
 rest-at : (es : List Event) (n : ℕ) → n < length es → rest es n ≡ spot es n ∷ rest es (suc n)
 unfolding rest
-rest-at es n l = ap (placed n) (drop-cons es n (record { time = 0; mask = 0 }) l)
+rest-at es n l = ap (numbered n) (drop-cons es n (record { time = 0; mask = 0 }) l)
 
 rest-end : (es : List Event) → rest es (length es) ≡ []
 unfolding rest
-rest-end es = ap (placed (length es)) (drop-length es)
+rest-end es = ap (numbered (length es)) (drop-length es)
 
 -- a match goes on from an item to the next
 spread : (h k m d c : Bool) → h && (((k && m) && d) || c) ≡ ((h && k) && (m && d)) || (h && c)
@@ -217,15 +218,15 @@ ended es items links j (suc m) h k =
     ∙ ended es items links (suc j) m (omega arith) (omega arith)
     ∙ ap (λ n. any_below (length es) (hit items links es n)) whole
 
-matched_lists : (items : List PatItem) (links : List PatLink) (es : List Event) (k : ℕ) → length items ≡ suc k → length links ≡ k → any_of (λ s. meet_items items s && meet_links links s) (sublists (placed 0 es)) ≡ any_below (length es) (hit items links es k)
+matched_lists : (items : List PatItem) (links : List PatLink) (es : List Event) (k : ℕ) → length items ≡ suc k → length links ≡ k → any_of (λ s. meet_items items s && meet_links links s) (sublists (numbered 0 es)) ≡ any_below (length es) (hit items links es k)
 unfolding rest
 matched_lists [] links es k h g = absurd (omega arith)
 matched_lists (i ∷ is) links es k h g =
     let whole : 0 + k ≡ k = omega arith in
-    begin-any i links is (placed 0 es) (omega arith)
+    begin-any i links is (numbered 0 es) (omega arith)
     ∙ begun es i links is
     ∙ ended es (i ∷ is) links 0 k (omega arith) (omega arith)
     ∙ ap (λ n. any_below (length es) (hit (i ∷ is) links es n)) whole
 
 pub matched : (p : Pattern) (es : List Event) (k : ℕ) → length p.items ≡ suc k → length p.links ≡ k → is_matched p es ≡ any_below (length es) (hit p.items p.links es k)
-matched p es k h g = any_match-any_of p (sublists (placed 0 es)) ∙ matched_lists p.items p.links es k h g
+matched p es k h g = some-any_of p (sublists (numbered 0 es)) ∙ matched_lists p.items p.links es k h g
