@@ -3,3 +3,9 @@ pub mod Compared
 pub mod ValueKinds
 pub mod TypeKinds
 pub mod Neighbours
+pub mod Rows
+pub mod Images
+pub mod Bits
+pub mod Inward
+pub mod TreeLinks
+pub mod FitsKinds

@@ -1,5 +1,5 @@
 -- A walk over the neighbours in a list.
-use Rattle.std.proofs.Common.{◌≡◌, ◌&&◌, ◌-◌, ◌<◌, ◌≤◌, ℕ, zero, suc, Bool, true, false, List, [], ◌∷◌, length, drop, get_or, map, refl, ap, ap₂, sym, ◌∙◌, arith}
+use Rattle.std.proofs.Common.{◌≡◌, ◌&&◌, ◌+◌, ◌-◌, ◌<◌, ◌≤◌, ℕ, zero, suc, Bool, true, false, List, [], ◌∷◌, length, drop, get_or, map, refl, ap, ap₂, sym, ◌∙◌, arith}
 use Rattle.agg_terms.specs.Fitting.{neighbours}
 
 opened : {X : Type 0} (test : X → X → Bool) (xs : List X) (i : ℕ) (x y : X) → suc i < length xs → x ≡ get_or xs i x → y ≡ get_or xs (suc i) y → neighbours test (drop i xs) ≡ (test x y && neighbours test (drop (suc i) xs))
@@ -18,6 +18,16 @@ at test xs (suc i) x y one l e f =
 pub passed : {X : Type 0} (test : X → X → Bool) (xs : List X) (i j : ℕ) (x y : X) → neighbours test (drop (i - 1) xs) ≡ neighbours test xs → 1 ≤ i → i < length xs → x ≡ get_or xs (i - 1) x → y ≡ get_or xs i y → test x y ≡ true → j ≡ i → neighbours test (drop j xs) ≡ neighbours test xs
 passed test xs i j x y same one l e f h is =
     ap (λ k. neighbours test (drop k xs)) is ∙ sym (at test xs i x y one l e f ∙ ap (λ b. b && neighbours test (drop i xs)) h) ∙ same
+
+any_default : {X : Type 0} (xs : List X) (i : ℕ) (c d : X) → i < length xs → get_or xs i c ≡ get_or xs i d
+any_default [] i c d l = absurd (omega arith)
+any_default (x ∷ xs) zero c d l = refl
+any_default (x ∷ xs) (suc i) c d l = any_default xs i c d (omega arith)
+
+-- the same, read with any default
+pub passed_at : {X : Type 0} (test : X → X → Bool) (xs : List X) (i : ℕ) (d : X) → neighbours test (drop (i - 1) xs) ≡ neighbours test xs → 1 ≤ i → i < length xs → true ≡ test (get_or xs (i - 1) d) (get_or xs i d) → neighbours test (drop (i + 1 - 1) xs) ≡ neighbours test xs
+passed_at test xs i d same one l h =
+    passed test xs i (i + 1 - 1) (get_or xs (i - 1) d) (get_or xs i d) same one l (any_default xs (i - 1) d (get_or xs (i - 1) d) (omega arith)) (any_default xs i d (get_or xs i d) l) (sym h) (omega arith)
 
 -- two neighbours that fail
 pub failed : {X : Type 0} (test : X → X → Bool) (xs : List X) (i : ℕ) (x y : X) → neighbours test (drop (i - 1) xs) ≡ neighbours test xs → 1 ≤ i → i < length xs → x ≡ get_or xs (i - 1) x → y ≡ get_or xs i y → test x y ≡ false → false ≡ neighbours test xs

@@ -8,7 +8,7 @@ use Rattle.value_types.specs.declared.ty.Ty.TheVariants as ty
 use Rattle.value_types.specs.Folds.{ty_of}
 use Rattle.value_types.proofs.FoldLaws.{ty_of-Arr, ty_of-Map, ty_of-Nullable}
 
-all_both : {X : Type 0} (p q : X → Bool) (xs : List X) → list_all (λ x. p x && q x) xs ≡ list_all p xs && list_all q xs
+pub all_both : {X : Type 0} (p q : X → Bool) (xs : List X) → list_all (λ x. p x && q x) xs ≡ list_all p xs && list_all q xs
 all_both p q [] = refl
 all_both p q (x ∷ xs) = ap (λ b. (p x && q x) && b) (all_both p q xs) ∙ regroup (p x) (q x) (list_all p xs) (list_all q xs)
   where

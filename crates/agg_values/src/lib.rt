@@ -6,17 +6,24 @@
 #![tactic(auto)]
 
 mod in_order;
+mod leaf_trees;
 mod links;
 mod order;
 mod plain_fits;
+mod row_fits;
 mod tree_order;
+mod trees;
+mod value_fits;
 
 pub use order::{compare, compare_rows};
+pub use value_fits::fits;
 pub use value_types::{
     Boxed, Bytes, Chain, Event, KeyedTree, Leaf, LeafName, Literal, Op, OutOfMemory, PatItem,
     PatLink, Pattern, Seq, Suffix, Tree, Ty, Value, bare, copy_trees, copy_types, copy_values,
     element, is_nil, is_nullable, is_signed, map_item, map_key, number,
 };
 
+#[cfg(test)]
+mod fits_tests;
 #[cfg(test)]
 mod tests;

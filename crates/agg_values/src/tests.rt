@@ -1,8 +1,5 @@
-use crate::in_order::{keys_rise, rows_rise, values_do_not_fall};
-use crate::plain_fits::plain_fits;
-use crate::{
-    Boxed, Bytes, Event, KeyedTree, OutOfMemory, Seq, Tree, Ty, Value, compare, compare_rows,
-};
+//! The order of values: kinds, elements and cells.
+use crate::{Bytes, Event, KeyedTree, OutOfMemory, Seq, Tree, Value, compare, compare_rows};
 use std::alloc::Global;
 use std::cmp::Ordering;
 use std::test::Fail;
@@ -83,114 +80,57 @@ fn tuples_stand_as_lists(rt: HostRuntime) {
     assert!(rt; compare_rows(&long, &[Value::Num(2)]) == Ordering::Less);
 }
 
-/// A tree of each kind, in the order of the kinds.
-fn trees(alloc: Global, number: i128) -> Result<Vec<Tree>, Fail> {
-    let mut values = Seq::new(alloc);
-    values.push(Value::Num(number))?;
-    let mut more = Seq::new(alloc);
-    more.push(Value::Num(number))?;
-    let mut row = Seq::new(alloc);
-    row.push(Value::Num(number))?;
-    let mut rows = Seq::new(alloc);
-    rows.push(row)?;
-    let mut events = Seq::new(alloc);
-    events.push(Event {
-        time: 5,
-        mask: if number == 1 { 1 } else { 2 },
-    })?;
-    let mut slots = Seq::new(alloc);
-    slots.push(Tree::Word(number))?;
-    let mut keyed = Seq::new(alloc);
-    keyed.push(KeyedTree {
+fn one<T: Drop>(alloc: Global, item: T) -> Result<Seq<T>, OutOfMemory> {
+    let mut items = Seq::new(alloc);
+    items.push(item)?;
+    Ok(items)
+}
+
+/// The tree of a map's states, of one key.
+fn keyed(alloc: Global, number: i128) -> Result<Tree, OutOfMemory> {
+    let entry = KeyedTree {
         key: Value::Num(0),
         tree: Tree::Word(number),
-    })?;
-    let mut all = Vec::new(alloc);
-    all.push(Tree::Empty)?;
-    all.push(Tree::Word(number))?;
-    all.push(Tree::Tuple(values))?;
-    all.push(Tree::Values(more))?;
-    all.push(Tree::Rows(rows))?;
-    all.push(Tree::Events(events))?;
-    all.push(Tree::Slots(slots))?;
-    all.push(Tree::Keyed(keyed))?;
-    Ok(all)
+    };
+    Ok(Tree::Keyed(one(alloc, entry)?))
+}
+
+fn events(alloc: Global, mask: u32) -> Result<Tree, OutOfMemory> {
+    Ok(Tree::Events(one(alloc, Event { time: 5, mask })?))
+}
+
+/// A cell of the kinds of states in their order, with a small number in it.
+fn cell(alloc: Global, kind: u8, number: u8) -> Result<Value, OutOfMemory> {
+    let word = i128::from(number);
+    Ok(Value::Cell(match kind {
+        0 => Tree::Empty,
+        1 => Tree::Word(word),
+        2 => Tree::Tuple(one(alloc, Value::Num(word))?),
+        3 => Tree::Values(one(alloc, Value::Num(word))?),
+        4 => Tree::Rows(one(alloc, one(alloc, Value::Num(word))?)?),
+        5 => events(alloc, u32::from(number))?,
+        6 => Tree::Slots(one(alloc, Tree::Word(word))?),
+        _ => keyed(alloc, word)?,
+    }))
 }
 
 #[test]
-fn cells_stand_by_their_trees(rt: HostRuntime) -> Result<(), Fail> {
+fn cells_of_one_kind_stand_by_what_they_hold(rt: HostRuntime) -> Result<(), Fail> {
     let alloc = rt.alloc();
-    let (low, high) = (trees(alloc, 1)?, trees(alloc, 2)?);
-    for i in 0..low.len() {
-        for j in 0..high.len() {
-            let (a, b) = (
-                Value::Cell(low[i].copy(alloc)?),
-                Value::Cell(high[j].copy(alloc)?),
-            );
-            let same = Value::Cell(low[i].copy(alloc)?);
-            assert!(rt; compare(&a, &same) == Ordering::Equal);
-            let want = if i == 0 && j == 0 {
-                Ordering::Equal
-            } else if i <= j {
-                Ordering::Less
-            } else {
-                Ordering::Greater
-            };
-            assert!(rt; compare(&a, &b) == want, "kinds {i} and {j}");
-        }
+    for kind in 1..8 {
+        let (low, high) = (cell(alloc, kind, 1)?, cell(alloc, kind, 2)?);
+        assert!(rt; compare(&low, &high) == Ordering::Less, "kind {kind}");
+        assert!(rt; compare(&high, &high) == Ordering::Equal, "kind {kind}");
     }
     Ok(())
 }
 
 #[test]
-fn values_fit_their_types_three_deep(rt: HostRuntime) -> Result<(), Fail> {
+fn cells_of_two_kinds_stand_by_kind(rt: HostRuntime) -> Result<(), Fail> {
     let alloc = rt.alloc();
-    let number = Ty::Nullable(Boxed::new(alloc, Ty::I16)?);
-    let ty = Ty::Map(
-        Boxed::new(alloc, Ty::Str)?,
-        Boxed::new(alloc, Ty::Arr(Boxed::new(alloc, number)?))?,
-    );
-    let fitting = map(
-        alloc,
-        text(alloc, b"k")?,
-        list(alloc, Value::Num(-32768), Value::Nil)?,
-    )?;
-    assert!(rt; plain_fits(&ty, &fitting));
-    let wide = map(
-        alloc,
-        text(alloc, b"k")?,
-        list(alloc, Value::Num(32768), Value::Nil)?,
-    )?;
-    assert!(rt; !plain_fits(&ty, &wide));
-    let keyed = map(alloc, Value::Nil, list(alloc, Value::Nil, Value::Nil)?)?;
-    assert!(rt; !plain_fits(&ty, &keyed));
-    for (byte, want) in [(0, true), (255, true), (256, false), (-1, false)] {
-        assert!(rt; plain_fits(&Ty::U8, &Value::Num(byte)) == want, "{byte}");
+    for kind in 0..7 {
+        let (low, high) = (cell(alloc, kind, 2)?, cell(alloc, kind + 1, 1)?);
+        assert!(rt; compare(&low, &high) == Ordering::Less, "kind {kind}");
     }
-    Ok(())
-}
-
-#[test]
-fn lists_in_order_are_told_from_others(rt: HostRuntime) -> Result<(), Fail> {
-    let alloc = rt.alloc();
-    assert!(rt; values_do_not_fall(&[Value::Nil, Value::Num(1), Value::Num(1)]));
-    assert!(rt; !values_do_not_fall(&[Value::Num(2), Value::Num(1)]));
-    let mut rows = Vec::new(alloc);
-    for number in [1, 2, 2] {
-        let mut row = Seq::new(alloc);
-        row.push(Value::Num(number))?;
-        rows.push(row)?;
-    }
-    assert!(rt; rows_rise(&rows[..2]));
-    assert!(rt; !rows_rise(&rows));
-    let low = KeyedTree {
-        key: Value::Num(1),
-        tree: Tree::Empty,
-    };
-    let high = KeyedTree {
-        key: Value::Num(2),
-        tree: Tree::Empty,
-    };
-    assert!(rt; keys_rise(&[low, high]));
     Ok(())
 }

@@ -1,0 +1,5 @@
+pub mod Digits
+pub mod Fits
+pub mod Found
+pub mod Only
+pub mod Law

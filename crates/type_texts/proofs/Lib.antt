@@ -1,0 +1,3 @@
+mod NamesRead
+mod Behind
+mod TypesWritten

@@ -1,0 +1,5 @@
+pub mod ChainNames
+pub mod ReadsBack
+pub mod PatternTexts
+pub mod ParamTexts
+pub mod TypeNames
