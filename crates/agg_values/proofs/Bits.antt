@@ -1,5 +1,5 @@
 -- Numbers of so many bits.
-use Rattle.std.proofs.Common.{◌≡◌, ◌⊎◌, inl, inr, ◌<◌, ◌≤◌, ◌^◌, ◌&&◌, min, ℕ, zero, suc, ℤ, pos, negsuc, FitsSigned, unsigned_abs, nat_lt, Bool, true, false, refl, ap, ap₂, sym, ◌∙◌, arith}
+use Rattle.std.proofs.Common.{◌≡◌, ◌⊎◌, inl, inr, ◌<◌, ◌≤◌, ◌^◌, ◌&&◌, min, ℕ, zero, suc, ℤ, pos, negsuc, FitsSigned, unsigned_abs, nat_lt, true, refl, ap, ap₂, sym, ◌∙◌, arith}
 use Rattle.std.specs.Prelude.{int_le}
 use Rattle.std.proofs.Math.Nat.{pow-le-pow_right}
 use Rattle.std.proofs.lemmas.Bool.{lt-ltb, ltb_from_iff}

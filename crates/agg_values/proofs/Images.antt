@@ -1,7 +1,6 @@
 -- Tests of lists at the images of the code's lists, and of trees at their kind.
-use Rattle.std.proofs.Common.{◌≡◌, ◌&&◌, ℕ, Bool, true, not, List, [], ◌∷◌, length, map, refl, ap, ap₂, sym, ◌∙◌}
+use Rattle.std.proofs.Common.{◌≡◌, ◌&&◌, Bool, not, List, [], ◌∷◌, map, refl, ap, ap₂, ◌∙◌}
 use Rattle.std.specs.declared.cmp.Ordering.{Ordering}
-use Rattle.std.specs.List.{list_all}
 use Rattle.std.specs.Ordering.{is_eq, is_le, is_lt}
 use Rattle.std.proofs.lemmas.List.{length-map}
 use Rattle.std.proofs.lemmas.List.Folds.{list_all-map}
@@ -10,19 +9,18 @@ use Rattle.agg_terms.specs.Values as family
 use Rattle.agg_terms.specs.Types.{state_args}
 use Rattle.agg_terms.specs.Order.{compare, compare_rows}
 use Rattle.agg_terms.specs.Trees.{by_time}
-use Rattle.agg_terms.specs.Fitting.{are_apart, has_cell, has_events, has_keyed, has_rows, has_slots, has_values, is_not_falling, is_rising, neighbours}
+use Rattle.agg_terms.specs.Fitting.{are_apart, has_keyed, has_rows, has_slots, has_values, is_not_falling, is_rising, neighbours}
 use Rattle.agg_terms.proofs.Lists.{keyed_back, table_back, trees_back, values_back}
 use Rattle.value_types.specs.declared.chain.Chain.{Chain}
 use Rattle.value_types.specs.declared.ty.Ty.{Ty}
 use Rattle.value_types.specs.declared.ty.Ty.TheVariants as ty
 use Rattle.value_types.specs.declared.value.Event.{Event}
 use Rattle.value_types.specs.declared.value.Value.{Value}
-use Rattle.value_types.specs.declared.value.Value.TheVariants as value
 use Rattle.value_types.specs.declared.value.Tree.{Tree}
 use Rattle.value_types.specs.declared.value.Tree.TheVariants as tree
 use Rattle.value_types.specs.declared.value.KeyedTree.{KeyedTree}
-use Rattle.value_types.specs.Folds.{chain_of, entry_of, event_of, tree_of, ty_of, value_of}
-use Rattle.value_types.proofs.FoldLaws.{tree_of-Events, tree_of-Keyed, tree_of-Rows, tree_of-Slots, tree_of-Values, ty_of-State, value_of-Cell}
+use Rattle.value_types.specs.Folds.{entry_of, event_of, tree_of, ty_of, value_of}
+use Rattle.value_types.proofs.FoldLaws.{tree_of-Keyed, tree_of-Rows, tree_of-Slots, tree_of-Values, ty_of-State}
 use Rattle.agg_values.proofs.Neighbours.{neighbours-map}
 
 apart-map : {X Y : Type 0} (cmp : Y → Y → Ordering) (f : X → Y) (xs : List X) → are_apart cmp (map f xs) ≡ are_apart (λ x y. cmp (f x) (f y)) xs

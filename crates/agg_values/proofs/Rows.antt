@@ -1,5 +1,5 @@
 -- Tuples and the types of their values.
-use Rattle.std.proofs.Common.{◌≡◌, ◌≢◌, ℕ, suc, Bool, true, false, List, [], ◌∷◌, length, map, ◌&&◌, refl, ap, sym, ◌∙◌, arith}
+use Rattle.std.proofs.Common.{◌≡◌, ◌≢◌, suc, Bool, true, false, List, [], ◌∷◌, length, map, ◌&&◌, refl, ap, sym, ◌∙◌}
 use Rattle.std.proofs.lemmas.List.{length-map}
 use Rattle.agg_terms.specs.Chains as terms
 use Rattle.agg_terms.specs.Values as family
@@ -7,7 +7,7 @@ use Rattle.agg_terms.specs.Types.{bare}
 use Rattle.agg_terms.specs.Fitting.{fits_plain, fits_row}
 use Rattle.value_types.specs.declared.ty.Ty.{Ty}
 use Rattle.value_types.specs.declared.value.Value.{Value}
-use Rattle.value_types.specs.Folds.{ty_of, value_of}
+use Rattle.value_types.specs.Folds.{value_of}
 use Rattle.agg_values.specs.declared.links.Peels.{Peels}
 use Rattle.agg_values.specs.Peels.{types_of}
 

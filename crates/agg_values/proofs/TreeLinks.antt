@@ -1,7 +1,6 @@
 -- The trees of a chain, by the chain's kind, for the code's matches.
-use Rattle.std.proofs.Common.{◌≡◌, ◌&&◌, ◌-◌, ◌+◌, ℕ, ℤ, Bool, true, false, Bor, List, [], ◌∷◌, length, map, nat_eq, refl, ap, sym, ◌∙◌}
+use Rattle.std.proofs.Common.{◌≡◌, ◌&&◌, ℕ, ℤ, Bool, true, false, Bor, List, [], ◌∷◌, length, map, nat_eq, refl, ap, sym, ◌∙◌}
 use Rattle.std.specs.List.{list_all}
-use Rattle.agg_terms.specs.Chains as terms
 use Rattle.agg_terms.specs.Values as family
 use Rattle.agg_terms.specs.Lists as lists
 use Rattle.agg_terms.specs.Types as types
