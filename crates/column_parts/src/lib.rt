@@ -13,3 +13,6 @@ pub use number_type::NumberType;
 pub use numbers::Numbers;
 pub use places::part;
 pub use texts::Texts;
+
+#[cfg(test)]
+mod tests;
