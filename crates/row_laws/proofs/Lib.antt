@@ -1,0 +1,4 @@
+pub mod Widened
+pub mod Parts
+pub mod Rows
+pub mod Calls
