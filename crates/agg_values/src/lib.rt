@@ -22,8 +22,3 @@ pub use value_types::{
     PatLink, Pattern, Seq, Suffix, Tree, Ty, Value, bare, copy_trees, copy_types, copy_values,
     element, is_nil, is_nullable, is_signed, map_item, map_key, number,
 };
-
-#[cfg(test)]
-mod fits_tests;
-#[cfg(test)]
-mod tests;
