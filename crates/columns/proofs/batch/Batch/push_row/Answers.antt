@@ -1,0 +1,13 @@
+use Rattle.std.proofs.Common.{sym, subst}
+use Rattle.columns.specs.Rows.{RowFits}
+use Rattle.columns.proofs.Rows.{fit_length, long_pushed, rows_pushed}
+use Rattle.columns.proofs.batch.Batch.push_row.Goals as goal
+
+pub invariant_of-self-2 : goal.invariant_of-self-2
+invariant_of-self-2 c = rw c.in_ok-push_each.ensures.ok (long_pushed _ _ _ c.self.invariant (subst (λ v. RowFits v.types c.args.row.now) (sym c.self.view_is) c.requires))
+
+pub returns-clause-ok : goal.returns-clause-ok
+returns-clause-ok c = rw (c.in_ok-push_each.ensures.ok, ← c.self.view_is) (rows_pushed _ _ _ c.self.invariant (subst (λ v. RowFits v.types c.args.row.now) (sym c.self.view_is) c.requires))
+
+pub push_each-requires-clause-same : goal.push_each-requires-clause-same
+push_each-requires-clause-same c = fit_length _ _ (subst (λ v. RowFits v.types c.args.row.now) (sym c.self.view_is) c.requires)

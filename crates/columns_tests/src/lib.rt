@@ -1,0 +1,8 @@
+//! What no contract says of columns: that with memory at hand each call succeeds, for each
+//! type. The module of a subject has its tests.
+#![tactic(auto)]
+
+#[cfg(test)]
+mod deep_values;
+#[cfg(test)]
+mod samples;

@@ -1,0 +1,9 @@
+pub mod Arguments
+pub mod Folds
+pub mod Meanings
+pub mod Parts
+pub mod Retained
+pub mod Rows
+pub mod Serving
+pub mod Stored
+pub mod Words

@@ -1,0 +1,3 @@
+pub mod Bests
+pub mod Ordered
+pub mod Places

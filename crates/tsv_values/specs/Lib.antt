@@ -1,0 +1,6 @@
+pub mod States
+pub mod Numbers
+pub mod Hex
+pub mod Answer
+pub mod Writing
+pub mod ReadBack

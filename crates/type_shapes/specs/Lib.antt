@@ -1,0 +1,6 @@
+pub mod Literals
+pub mod Shapes
+pub mod Folds
+pub mod Answer
+pub mod Reading
+pub mod ReadsBack

@@ -1,0 +1,18 @@
+//! The texts of types, read.
+//! specs/Shapes.antt says what the shape of a type is and which shape a text spells, specs/Literals.antt what a literal
+//! in it stands for, and specs/Answer.antt what the reader answers. That printed types read back stands in
+//! specs/ReadsBack.antt.
+#![tactic(auto)]
+
+mod laws;
+mod literal;
+mod mark;
+mod plain;
+mod reading;
+mod shape;
+#[cfg(test)]
+mod tests;
+
+pub use laws::law_types_read_back;
+pub use reading::read_type_shape;
+pub use shape::{ShapeFault, TypeShape};
