@@ -4,7 +4,7 @@ use Rattle.agg_terms.specs.Chains.{Leaf, Chain}
 use Rattle.agg_terms.specs.Chains as C
 use Rattle.agg_typing.specs.Faults.{Fault, ArgCount, or_else}
 
--- how few arguments a function takes (manual: the page of each function)
+-- how few arguments a function takes (manual: "Aggregate functions reference", under each function's name)
 abbrev pub leaf_least : Leaf → ℕ
 leaf_least C.Count = 0
 leaf_least C.ArgMin = 2
@@ -13,7 +13,7 @@ leaf_least (C.WindowFunnel window strict) = 2
 leaf_least (C.SequenceMatch pattern) = 2
 leaf_least _ = 1
 
--- how many arguments a function takes at most
+-- how many arguments a function takes at most (manual: the same; that conditions are at most 32 is this project's own limit)
 abbrev pub leaf_greatest : Leaf → ℕ
 leaf_greatest C.ArgMin = 2
 leaf_greatest C.ArgMax = 2
@@ -24,7 +24,7 @@ leaf_greatest C.Retention = 32
 leaf_greatest _ = 1
 
 -- How few arguments a chain takes: If and Resample one more than what is inside, a Map and a Merge one; what opens
--- arrays or compares rows takes one or more.
+-- arrays or compares rows takes one or more (manual: "Aggregate function combinators").
 abbrev pub least : Chain → ℕ
 least (C.Of f) = leaf_least f
 least (C.If c) = least c + 1
@@ -71,6 +71,6 @@ inside_maps (C.State c) = inside_maps c
 inside_maps (C.MapOf c) = or_else (takes_count c 1) (inside_maps c)
 inside_maps (C.Merge c) = None
 
--- Number of arguments: first the whole chain against those of the call, then what is inside each Map.
+-- Number of arguments: first the whole chain against those of the call, then what is inside each Map (this project's own choice).
 abbrev pub arg_count : Chain → ℕ → Option Fault
 arg_count c n = or_else (takes_count c n) (inside_maps c)

@@ -6,7 +6,7 @@ use Rattle.agg_terms.specs.Lists.{front}
 use Rattle.agg_terms.specs.Types.{element, map_part}
 use Rattle.agg_typing.specs.Faults.{Fault, ArgType, or_else}
 
--- UInt8 to UInt64 and Int8 to Int64. Here and below a type may be Nullable of what is named.
+-- UInt8 to UInt64 and Int8 to Int64 (manual: "Int and UInt"). Here and below a type may be Nullable of what is named.
 abbrev pub is_number : Ty → Bool
 is_number (C.Whole n) = true
 is_number (C.Signed w) = true
@@ -77,7 +77,8 @@ abbrev pub time_and_conditions : List Arg → Option Fault
 time_and_conditions [] = None
 time_and_conditions (a ∷ args) = cond (is_time a.1) (each_is is_condition args) (Some (ArgType a.0))
 
--- Type of an argument, at a function (manual: the page of each function).
+-- Type of an argument, at a function (manual: "Aggregate functions reference"; which types each takes is this project's own
+-- choice).
 abbrev pub leaf_types : Leaf → List Arg → Option Fault
 leaf_types C.Count args = None
 leaf_types C.Sum args = each_is is_number args
@@ -94,7 +95,7 @@ leaf_types (C.SequenceMatch pattern) args = time_and_conditions args
 leaf_types C.Retention args = each_is is_condition args
 
 -- Type of an argument, from the outermost link inward: If drops its condition and Resample its key, Array and ForEach
--- pass elements on, Map passes values on. Nothing is asked inside a Merge.
+-- pass elements on, Map passes values on. Nothing is asked inside a Merge (manual: "Aggregate function combinators").
 abbrev pub arg_types : Chain → List Arg → Option Fault
 arg_types (C.Of f) args = leaf_types f args
 arg_types (C.If c) args = or_else (last_is is_condition args) (arg_types c (front args))

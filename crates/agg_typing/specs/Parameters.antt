@@ -41,19 +41,20 @@ max_size = natural 1 (2 ^ 32 - 1)
 abbrev pub window : Literal → Option ℕ
 window = natural 0 (2 ^ 64 - 1)
 
--- windowFunnel's mode: the text strict_increase alone
+-- windowFunnel's mode: the text strict_increase alone (manual: "windowFunnel"; the other modes are left out)
 abbrev pub mode : Literal → Option (Unit {0})
 mode (Text bytes) = cond (bytes_eq bytes (codes "strict_increase")) (Some tt) None
 mode _ = None
 
--- quantileExact's level in billionths: 0 or 1, or a decimal of one to nine places from 0 to 1
+-- quantileExact's level in billionths: 0 or 1, or a decimal of one to nine places from 0 to 1 (manual: "quantileExact"; the
+-- number of places is this project's own limit)
 abbrev pub level : Literal → Option ℕ
 level (Int (pos n)) = cond (nat_le n 1) (Some (n * 10 ^ 9)) None
 level (Decimal digits places) =
     cond (nat_le 1 places && (nat_le places 9 && nat_le digits (10 ^ places))) (Some (digits * 10 ^ (9 - places))) None
 level _ = None
 
--- the level of quantileExact without a parameter: one half
+-- the level of quantileExact without a parameter: one half (manual: "quantileExact")
 abbrev pub median : ℕ
 median = 5 * 10 ^ 8
 
@@ -88,7 +89,7 @@ abbrev pub most_conditions : ℕ
 most_conditions = 32
 
 -- Bad pattern: the conditions of a pattern are the arguments that reach it, but for the time; where their
--- number is none of 1 to 32, it is 32.
+-- number is none of 1 to 32, it is 32 (this project's own choice).
 abbrev pub pattern_conditions : Option ℕ → ℕ
 pattern_conditions (Some n) = cond (nat_le 1 (n - 1) && nat_le (n - 1) most_conditions) (n - 1) most_conditions
 pattern_conditions None = most_conditions

@@ -17,7 +17,8 @@ abbrev pub is_if : Suffix → Bool
 is_if Suffix.If = true
 is_if _ = false
 
--- Array outside If: an Array stands further out than an If (manual: "Aggregate function combinators", -Array).
+-- Array outside If: an Array stands further out than an If. The manual says that Array comes first in a name ("Aggregate function
+-- combinators", -Array); that the whole name is asked is this project's own choice.
 abbrev pub has_array_outside_if : List Suffix → Bool
 has_array_outside_if [] = false
 has_array_outside_if (Suffix.Array ∷ inner) = list_any is_if inner || has_array_outside_if inner
@@ -29,7 +30,7 @@ fewest_params LeafName.WindowFunnel = 1
 fewest_params LeafName.SequenceMatch = 1
 fewest_params _ = 0
 
--- how many parameters a function takes at most
+-- how many parameters a function takes at most (manual: the same)
 abbrev pub most_params : LeafName → ℕ
 most_params LeafName.GroupArray = 1
 most_params LeafName.QuantileExact = 1
@@ -43,7 +44,8 @@ resample_params [] = 0
 resample_params (Suffix.Resample ∷ inner) = resample_params inner + 3
 resample_params (s ∷ inner) = resample_params inner
 
--- Number of parameters: what the Resamples leave of the parameters is a number of parameters that the function takes.
+-- Number of parameters: what the Resamples leave of the parameters is a number of parameters that the function takes
+-- (this project's own choice).
 abbrev pub takes_param_count : LeafName → List Suffix → ℕ → Bool
 takes_param_count f outermost_first n =
     nat_le (resample_params outermost_first + fewest_params f) n && nat_le n (resample_params outermost_first + most_params f)

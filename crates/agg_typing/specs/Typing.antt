@@ -1,5 +1,5 @@
 -- Which calls are allowed: nine rules in their order, and the first that is broken. Within one rule the outermost link
--- comes first, and within one link what stands further left.
+-- comes first, and within one link what stands further left. The order is this project's own choice.
 use Rattle.std.specs.Prelude.{ℕ, not, List, length, reverse, Result, Ok, Err}
 use Rattle.agg_terms.specs.declared.words.Suffix.{Suffix}
 use Rattle.agg_terms.specs.Chains.{Chain, Ty, StateOf, tys}

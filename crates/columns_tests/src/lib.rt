@@ -3,6 +3,10 @@
 #![tactic(auto)]
 
 #[cfg(test)]
+mod batches;
+#[cfg(test)]
 mod deep_values;
+#[cfg(test)]
+mod plain_fields;
 #[cfg(test)]
 mod samples;

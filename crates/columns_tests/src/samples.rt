@@ -1,4 +1,7 @@
 //! Types nested three deep around a type, and values of them around a value.
+ghost use Rattle.std.specs.Prelude.{◌≡◌, IfOk};
+ghost use Rattle.value_types.specs.declared.value.Value.TheVariants as form;
+
 use std::alloc::Global;
 use value_types::{Boxed, Bytes, OutOfMemory, Seq, Ty, Value};
 
@@ -16,7 +19,9 @@ pub(crate) fn in_arrays(alloc: Global, of: Ty) -> Result<Ty, OutOfMemory> {
     Ok(Ty::Arr(Boxed::new(alloc, middle)?))
 }
 
-pub(crate) fn text(alloc: Global, bytes: &[u8]) -> Result<Value, OutOfMemory> {
+pub(crate) fn text(alloc: Global, bytes: &[u8]) -> Result<Value, OutOfMemory>
+    ensures { IfOk result (λ v. v ≡ form.Bytes bytes.now) }
+{
     Ok(Value::Bytes(Bytes::from_slice(alloc, bytes)?))
 }
 

@@ -5,7 +5,8 @@ use Rattle.type_shapes.specs.declared.shape.TypeShape.{TypeShape}
 use Rattle.type_shapes.specs.declared.shape.TypeShape.TheVariants as code
 use Rattle.type_shapes.specs.declared.shape.TypeShape.TheOpen.{TypeShape-F}
 use Rattle.type_shapes.specs.declared.shape.TypeShape.TheFolds.{fold-roll-TypeShape}
-use Rattle.type_shapes.specs.Folds.{literal_of, shape_of, shape_step}
+use Rattle.chain_params.specs.Literals.{literal_of}
+use Rattle.type_shapes.specs.Folds.{shape_of, shape_step}
 use Rattle.type_shapes.specs.Shapes.{Shape, Arr, MapOf, Nullable, State, shapes}
 
 pub shape_of-Arr : (s : TypeShape) → shape_of (code.Arr s) ≡ Arr (shape_of s)

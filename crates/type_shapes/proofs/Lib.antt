@@ -5,10 +5,10 @@ mod OneText
 mod Fronts
 mod TypesRead
 mod ListsRead
-pub mod FoldLaws
+mod FoldLaws
 mod Lists
 mod WholeRead
-pub mod TokensBack
+mod TokensBack
 mod Printed
 mod PrintedTypes
 mod RoundTrip

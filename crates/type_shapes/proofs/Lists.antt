@@ -6,7 +6,8 @@ use Rattle.agg_typing.specs.Literals.{Literal as Family}
 use Rattle.line_tokens.specs.Tokens.{Token}
 use Rattle.value_types.specs.declared.literal.Literal.{Literal}
 use Rattle.type_shapes.specs.declared.shape.TypeShape.{TypeShape}
-use Rattle.type_shapes.specs.Folds.{literal_of, shape_of}
+use Rattle.chain_params.specs.Literals.{literal_of}
+use Rattle.type_shapes.specs.Folds.{shape_of}
 use Rattle.type_shapes.specs.Literals.{IsLiteral}
 use Rattle.type_shapes.specs.Shapes.{Shape}
 

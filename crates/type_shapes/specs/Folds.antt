@@ -1,18 +1,11 @@
 -- What a shape of the code is in the definitions.
 use Rattle.std.specs.Prelude.{map}
 use mir.Syntax.{w8, w16, w32, w64}
-use Rattle.agg_typing.specs.Literals as terms
-use Rattle.value_types.specs.declared.literal.Literal.{Literal}
-use Rattle.value_types.specs.declared.literal.Literal.TheVariants as literal
+use Rattle.chain_params.specs.Literals.{literal_of}
 use Rattle.type_shapes.specs.declared.shape.TypeShape.{TypeShape}
 use Rattle.type_shapes.specs.declared.shape.TypeShape.TheOpen.{TypeShape-F}
 use Rattle.type_shapes.specs.declared.shape.TypeShape.TheFolds.{fold-TypeShape}
 use Rattle.type_shapes.specs.Shapes.{Shape, Whole, Signed, Str, Arr, MapOf, Nullable, State, shapes}
-
-abbrev pub literal_of : Literal → terms.Literal
-literal_of (literal.Int n) = terms.Int n
-literal_of (literal.Decimal units places) = terms.Decimal units places
-literal_of (literal.Text bytes) = terms.Text bytes
 
 -- one layer of a shape, over what its parts are; number types are told by their width
 abbrev pub shape_step : TypeShape-F Shape → Shape

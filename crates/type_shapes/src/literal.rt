@@ -9,7 +9,7 @@ ghost use Rattle.line_tokens.specs.Views.{token_seen};
 ghost use Rattle.tsv_text.specs.Escapes.{IsUnescaped};
 ghost use Rattle.type_names.specs.TypeTexts.{is_literal};
 ghost use Rattle.type_shapes.specs.Literals.{is_point, has_minus, integer_value, IsLiteral, HasValue, IsSmallInteger, IsSmallDecimal};
-ghost use Rattle.type_shapes.specs.Folds.{literal_of};
+ghost use Rattle.chain_params.specs.Literals.{literal_of};
 
 use line_tokens::Token;
 use std::alloc::Global;

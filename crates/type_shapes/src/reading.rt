@@ -3,7 +3,8 @@
 ghost use Rattle.std.specs.Prelude.{◌≤◌, ◌<◌, IfOk, IfSome, length, map, codes};
 ghost use Rattle.std.specs.Option.{option_map};
 ghost use Rattle.type_shapes.specs.Answer.{IsShapeAnswer};
-ghost use Rattle.type_shapes.specs.Folds.{shape_of, literal_of};
+ghost use Rattle.type_shapes.specs.Folds.{shape_of};
+ghost use Rattle.chain_params.specs.Literals.{literal_of};
 ghost use Rattle.type_shapes.specs.Reading.{ReadsLiterals, ReadsType, ReadsInside, ReadsBehind, ReadsTypes};
 
 use crate::literal::literal;

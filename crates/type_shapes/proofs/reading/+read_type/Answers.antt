@@ -1,5 +1,6 @@
 use Rattle.std.proofs.Common.{sym, ap, subst, ◌∙◌, map, arith, rules, Some, codes}
-use Rattle.type_shapes.specs.Folds.{literal_of, shape_of}
+use Rattle.chain_params.specs.Literals.{literal_of}
+use Rattle.type_shapes.specs.Folds.{shape_of}
 use Rattle.type_shapes.specs.Reading.{ReadsType, ReadsInside, ReadsBehind, ReadsTypes, ReadsLiterals}
 use Rattle.type_shapes.specs.Shapes.{Arr, Nullable, MapOf, State, shapes}
 use Rattle.type_shapes.proofs.FoldLaws.{shape_of-Arr, shape_of-Map, shape_of-Nullable, shape_of-State}

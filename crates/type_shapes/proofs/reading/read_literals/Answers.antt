@@ -1,6 +1,6 @@
 use Rattle.std.proofs.Common.{sym, subst, map, arith}
 use Rattle.line_tokens.specs.Views.{token_seen}
-use Rattle.type_shapes.specs.Folds.{literal_of}
+use Rattle.chain_params.specs.Literals.{literal_of}
 use Rattle.type_shapes.specs.Reading.{ReadsLiterals}
 use Rattle.std.proofs.Common.{Some}
 use Rattle.type_shapes.proofs.Lists.{map_push, some_literal}

@@ -1,5 +1,5 @@
 use Rattle.std.proofs.Common.{◌≤◌, length, map}
-use Rattle.type_shapes.specs.Folds.{literal_of}
+use Rattle.chain_params.specs.Literals.{literal_of}
 use Rattle.type_shapes.proofs.ListsRead.{AtLiterals}
 use Rattle.type_shapes.proofs.reading.read_literals.Given as goal
 

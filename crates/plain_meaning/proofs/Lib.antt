@@ -1,0 +1,11 @@
+pub mod Arms
+pub mod Fronts
+pub mod Intervals
+pub mod Links
+pub mod Narrow
+pub mod Parts
+pub mod Picked
+pub mod Rows
+pub mod Served
+pub mod Small
+pub mod ResultTypes

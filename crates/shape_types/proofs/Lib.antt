@@ -1,0 +1,7 @@
+mod Arms
+mod Refused
+mod InOrder
+mod AtPlaces
+mod PlainNames
+mod ShortTexts
+mod LegalTypes

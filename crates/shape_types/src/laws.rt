@@ -1,0 +1,18 @@
+//! What holds of shapes, as contracts of functions that do nothing.
+
+ghost use Rattle.shape_types.specs.Countable.{ShortTextsAreCountable};
+ghost use Rattle.shape_types.specs.Legal.{ReadTypesAreLegal};
+
+use agg_typing::law_typing;
+
+/// The shape that is read from a text of fewer than 2^32 bytes is one that `type_of` takes.
+pub fn law_short_texts_are_countable()
+    ensures { ShortTextsAreCountable }
+{}
+
+/// The type that a shape which was read stands for is legal, so that `resolve` of chain_types takes it for an argument.
+pub fn law_read_types_are_legal()
+    ensures { ReadTypesAreLegal }
+{
+    law_typing();
+}

@@ -1,0 +1,13 @@
+//! The types that written types stand for.
+//!
+//! specs/Types.antt says which type a written shape stands for, and which state type in it is refused first.
+//! specs/Countable.antt says which shapes are short enough to be judged.
+#![tactic(auto)]
+
+mod laws;
+#[cfg(test)]
+mod tests;
+mod types;
+
+pub use laws::{law_read_types_are_legal, law_short_texts_are_countable};
+pub use types::type_of;
