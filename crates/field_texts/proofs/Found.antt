@@ -1,15 +1,14 @@
 -- What a stack says of the rest of the text: so what is accepted is in the grammar.
-use Rattle.std.proofs.Common.{◌≡◌, ℕ, zero, suc, ◌+◌, ◌<◌, ◌≤◌, Bool, true, false, cond, List, [], ◌∷◌, ◌++◌, codes, Option, Some, None, Result, Ok, Err, refl, sym, ap, subst, ◌∙◌, append_assoc, arith, inl, inr, ◌⊎◌}
-use Rattle.std.proofs.lemmas.List.{append-nil}
+use Rattle.std.proofs.Common.{◌≡◌, ℕ, zero, suc, Bool, true, false, List, [], ◌∷◌, ◌++◌, codes, Option, Some, None, Ok, refl, sym, ap, subst, ◌∙◌, append_assoc, arith, inl, inr}
 use Rattle.first_fault.specs.Machine.{run}
 use Rattle.first_fault.proofs.Machines.{letter_ok, end_ok}
 use Rattle.first_fault.specs.Grammar.{Then}
 use Rattle.tsv_text.specs.Escapes as escapes
 use Rattle.tsv_text.specs.Escapes.{Piece, plain, letter, pieces_then}
-use Rattle.field_texts.specs.Syntax.{Shape, number, string, nullable, array, map_of, IsSpaces, Token, IsDigit, AreDigits, IsDigits, IsNumber, IsHex, AllFitInQuotes, closed_text, InQuotes, IsQuoted, MoreOf, Closing, Opened, SyntaxOf, IsField}
+use Rattle.field_texts.specs.Syntax.{Shape, number, string, nullable, array, map_of, IsSpaces, Token, AreDigits, IsDigits, IsNumber, IsHex, InQuotes, IsQuoted, MoreOf, Closing, Opened, SyntaxOf}
 use Rattle.field_texts.specs.declared.mark.Mark.{Mark}
 use Rattle.field_texts.specs.declared.mark.Mark.TheVariants.{Space, Plus, Minus, Digit, Quote, Backslash, Comma, Colon, OpenBracket, CloseBracket, OpenBrace, CloseBrace, LetterX, HexLetter, LetterN, LetterU, LetterL, Other}
-use Rattle.field_texts.specs.Machine.{mark_of, Goal, value, first, more, first_pair, more_pair, between, digits, more_digits, quoted, escaped, hexed, letter_u, letter_l, opened, before, step_on, step, done, judge}
+use Rattle.field_texts.specs.Machine.{mark_of, Goal, value, first, more, first_pair, more_pair, between, digits, more_digits, quoted, escaped, hexed, letter_u, letter_l, opened, before, step_on, step, done}
 use Rattle.field_texts.proofs.Marks.{IsMark, is_mark}
 
 -- an entry of a map

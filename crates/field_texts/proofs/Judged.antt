@@ -1,5 +1,5 @@
 -- What the judge's loop told.
-use Rattle.std.proofs.Common.{◌≡◌, ℕ, List, [], ◌∷◌, Option, Some, None, Result, Ok, Err, subst, sym}
+use Rattle.std.proofs.Common.{◌≡◌, ℕ, List, Some, None, Ok, Err, subst}
 use Rattle.first_fault.specs.FirstFault.{IsReading}
 use Rattle.field_texts.specs.Syntax.{Shape, IsField}
 use Rattle.field_texts.specs.Faults.{IsFieldFault}

@@ -1,9 +1,9 @@
 -- The judge is right, with the first fault.
-use Rattle.std.proofs.Common.{◌≡◌, ℕ, List, [], ◌∷◌, ◌++◌, Result, Ok, Err, refl, sym, ap, subst}
+use Rattle.std.proofs.Common.{ℕ, List, [], ◌∷◌, refl, sym, subst}
 use Rattle.first_fault.specs.FirstFault.{IsReading}
 use Rattle.first_fault.proofs.Machines.{IsLive, machine_reads}
-use Rattle.field_texts.specs.Syntax.{Shape, SyntaxOf, IsSpaces, IsField}
-use Rattle.field_texts.specs.Machine.{Goal, value, step, done, judge}
+use Rattle.field_texts.specs.Syntax.{Shape, IsField}
+use Rattle.field_texts.specs.Machine.{value, step, done, judge}
 use Rattle.field_texts.proofs.Found.{Sound, kept, found}
 use Rattle.field_texts.proofs.Only.{Runs, spaces_run, accepts, goes_on}
 use Rattle.std.proofs.lemmas.List.{append-nil}

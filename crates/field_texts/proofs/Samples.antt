@@ -1,5 +1,5 @@
-use Rattle.std.proofs.Common.{◌≡◌, codes, Ok, Err, refl, [], ◌∷◌, Result, ℕ, List}
-use Rattle.field_texts.specs.Syntax.{Shape, number, string, nullable, array, map_of}
+use Rattle.std.proofs.Common.{◌≡◌, codes, Ok, Err, refl}
+use Rattle.field_texts.specs.Syntax.{number, string, nullable, array, map_of}
 use Rattle.field_texts.specs.Machine.{judge}
 
 row : judge (array number) (codes "[1, 2") ≡ Err 5

@@ -1,5 +1,5 @@
 -- What the judge of a field answers.
-use Rattle.std.specs.Prelude.{ℕ, List, Option, Some, None, Result, Ok, Err}
+use Rattle.std.specs.Prelude.{ℕ, List, Option, Some, None, Ok, Err}
 use Rattle.first_fault.specs.FirstFault.{IsReading}
 use Rattle.field_texts.specs.Syntax.{Shape, IsField}
 

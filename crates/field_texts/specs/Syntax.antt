@@ -1,6 +1,6 @@
 -- How the texts of numbers, strings, arrays and maps look (manual: "TabSeparated"; spaces between tokens, and what a
 -- text in quotes may hold, are this project's own choice). Spaces may stand before and behind each token.
-use Rattle.std.specs.Prelude.{◌≡◌, ℕ, suc, zero, ◌≤◌, List, [], ◌∷◌, ◌++◌, codes, ◌⊎◌}
+use Rattle.std.specs.Prelude.{◌≡◌, ℕ, suc, zero, ◌≤◌, List, [], ◌∷◌, codes, ◌⊎◌}
 use Rattle.agg_terms.specs.Chains.{Ty, Whole, Signed, Str, Arr, MapTy, Nullable, StateOf}
 use Rattle.first_fault.specs.Grammar.{Then}
 use Rattle.tsv_text.specs.Escapes.{Piece, plain, letter, hexed, pieces_then}

@@ -8,8 +8,6 @@ mod laws;
 mod numbers;
 mod scalars;
 mod states;
-#[cfg(test)]
-mod tests;
 mod writing;
 
 pub use fault::{FieldFault, StateFault, StateReadFault};
