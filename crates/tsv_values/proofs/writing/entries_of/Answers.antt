@@ -12,7 +12,7 @@ returns-in-Pairs c =
     let key_fits : Value × Value → Bool = λ e. fits_value (ty_of c.args.key.now) (value_of e.0) in
     let item_fits : Value × Value → Bool = λ e. fits_value (ty_of c.args.item.now) (value_of e.1) in
     let both : list_all (λ (e : Value × Value). key_fits e && item_fits e) c.in-Pairs.entries ≡ true =
-        entries_fit (λ e. fits_value (ty_of c.args.key.now) e.0 && fits_value (ty_of c.args.item.now) e.1) c.args.value.now c.in-Pairs.entries c.in-Pairs.is c.requires in
+    entries_fit (λ e. fits_value (ty_of c.args.key.now) e.0 && fits_value (ty_of c.args.item.now) e.1) c.args.value.now c.in-Pairs.entries c.in-Pairs.is c.requires in
     record {
       same = ap (map (λ (e : Value × Value). (value_of e.0, value_of e.1))) c.as_slice.ensures ∙ sym (entries_at c.args.value.now c.in-Pairs.entries c.in-Pairs.is);
       keys = ap (list_all key_fits) c.as_slice.ensures ∙ each_so (λ (e : Value × Value). key_fits e && item_fits e) key_fits (λ e b. (and_parts (key_fits e) (item_fits e) b).0) c.in-Pairs.entries both;
