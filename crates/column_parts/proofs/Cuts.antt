@@ -1,5 +1,5 @@
 -- Laws of a list that is cut at ascending places.
-use Rattle.std.proofs.Common.{◌≡◌, add-one, ℕ, suc, zero, ◌+◌, ◌-◌, ◌≤◌, ◌<◌, List, [], ◌∷◌, ◌++◌, length, map, get_or, take, drop, refl, ap, sym, ◌∙◌, arith, length-drop, length-append, length-take}
+use Rattle.std.proofs.Common.{◌≡◌, add-one, ℕ, suc, zero, ◌+◌, ◌-◌, ◌≤◌, ◌<◌, List, [], ◌∷◌, ◌++◌, length, map, get_or, take, drop, refl, ap, sym, ◌∙◌, arith, length-drop}
 use Rattle.std.specs.Prelude.{Some}
 use Rattle.std.specs.List.{slice_range, slice_get}
 use Rattle.std.proofs.lemmas.Option.{slice_get-map, slice_get-get_or}
@@ -7,7 +7,10 @@ use Rattle.std.specs.Option.{option_map}
 use Rattle.std.proofs.lemmas.List.{length-map, take-map, map-append, length-take-le, take-take, take-append-le, drop-append-le, take_all, drop_at}
 use Rattle.std.proofs.lemmas.Slice.{between_is}
 use native.Mathlib.Numerals.{unary_clauses}
-use Rattle.column_parts.specs.Cuts.{cuts, IsCut, Ascends}
+use Rattle.std.proofs.Common.{◌^◌}
+use Rattle.std.proofs.lemmas.List.{append_assoc}
+use Rattle.std.proofs.Math.Seq.{drop-append-add, take-suc}
+use Rattle.column_parts.specs.Cuts.{cuts, IsCut, Ascends, joined_places}
 
 pub length-cuts : {A : Type 0} (at : List ℕ) (xs : List A) → 0 < length at → length (cuts at xs) + 1 ≡ length at
 length-cuts [] xs h = absurd (omega arith)
@@ -157,5 +160,60 @@ get-range xs a b i h = get-take (b - a) (drop a xs) i h ∙ get-drop a xs i
 
 pub length-range : {A : Type 0} (xs : List A) (a b : ℕ) → a ≤ b → b ≤ length xs → length (slice_range xs a b) ≡ b - a
 length-range xs a b h l = length-take-le (b - a) (drop a xs) (omega (arith, length-drop a xs))
+
+-- a second list behind the first: its places move on by the first one's length
+pub place_fits : (at : List ℕ) (end base i d : ℕ) → IsCut at end → base + end < 2 ^ 64 → i < length at → base + get_or at i d < 2 ^ 64
+place_fits at end base i d cut room h = omega (arith, cut_top at end i d cut h)
+
+pub moved_more : (f : ℕ → ℕ) (old more : List ℕ) (i : ℕ) → 1 ≤ i → i < length more →
+    (old ++ map f (take (i - 1) (drop 1 more))) ++ f (get_or more i 0) ∷ [] ≡ old ++ map f (take (i + 1 - 1) (drop 1 more))
+moved_more f old [] i from h = absurd (omega arith)
+moved_more f old (m ∷ rest) zero from h = absurd (omega arith)
+moved_more f old (m ∷ rest) (suc j) from h =
+    let before : suc j - 1 ≡ j = omega arith in
+    let after : suc j + 1 - 1 ≡ suc j = omega arith in
+    let last = map-append f (take j rest) (get_or rest j 0 ∷ []) in
+    rw (before, after) (append_assoc old (map f (take j rest)) (f (get_or rest j 0) ∷ [])
+    ∙ ap (λ t. old ++ t) (sym last ∙ ap (map f) (sym (take-suc rest j 0 (omega arith)))))
+
+pub moved_all : (more : List ℕ) (i : ℕ) → length more ≤ i → take (i - 1) (drop 1 more) ≡ drop 1 more
+moved_all more i h = take_all (i - 1) (drop 1 more) (omega (arith, length-drop 1 more))
+
+range-moved : {A : Type 0} (xs ys : List A) (base b c : ℕ) → base ≡ length xs → slice_range (xs ++ ys) (base + b) (base + c) ≡ slice_range ys b c
+range-moved xs ys base b c is =
+    let width : (base + c) - (base + b) ≡ c - b = omega arith in
+    ap (λ n. take n (drop (base + b) (xs ++ ys))) width ∙ ap (take (c - b)) (ap (λ n. drop (n + b) (xs ++ ys)) is ∙ drop-append-add xs ys b)
+
+ascends_moved : (base b a : ℕ) (more : List ℕ) (end : ℕ) → a ≡ base + b → Ascends b more end → Ascends a (map (λ place. base + place) more) (base + end)
+ascends_moved base b a [] end is h = omega (arith, is, h)
+ascends_moved base b a (c ∷ more) end is h = (omega (arith, is, h.0), ascends_moved base c (base + c) more end refl h.1)
+
+ascends_joined : (a : ℕ) (rest more : List ℕ) (base b end : ℕ) → Ascends a rest base → b ≡ 0 → Ascends b more end →
+    Ascends a (rest ++ map (λ place. base + place) more) (base + end)
+ascends_joined a [] more base b end h none l = ascends_moved base b a more end (omega (arith, h, none)) l
+ascends_joined a (c ∷ rest) more base b end h none l = (h.0, ascends_joined c rest more base b end h.1 none l)
+
+pub cut_joined : (at more : List ℕ) (base end total : ℕ) → IsCut at base → IsCut more end → total ≡ base + end → IsCut (joined_places base at more) total
+cut_joined [] more base end total h l is = absurd h
+cut_joined (a ∷ rest) [] base end total h l is = absurd l
+cut_joined (a ∷ rest) (b ∷ more) base end total h l is = rw is (h.0, ascends_joined a rest more base b end h.1 l.0 l.1)
+
+cuts_moved : {A : Type 0} (xs ys : List A) (base b a : ℕ) (more : List ℕ) → base ≡ length xs → a ≡ base + b →
+    cuts (a ∷ map (λ place. base + place) more) (xs ++ ys) ≡ cuts (b ∷ more) ys
+cuts_moved xs ys base b a [] long is = refl
+cuts_moved xs ys base b a (c ∷ more) long is =
+    λ i. (ap (λ n. slice_range (xs ++ ys) n (base + c)) is ∙ range-moved xs ys base b c long) i ∷ cuts_moved xs ys base c (base + c) more long refl i
+
+cuts-joined : {A : Type 0} (a : ℕ) (rest : List ℕ) (xs ys : List A) (base b : ℕ) (more : List ℕ) → base ≡ length xs → Ascends a rest base → b ≡ 0 →
+    cuts (a ∷ (rest ++ map (λ place. base + place) more)) (xs ++ ys) ≡ cuts (a ∷ rest) xs ++ cuts (b ∷ more) ys
+cuts-joined a [] xs ys base b more long h none = cuts_moved xs ys base b a more long (omega (arith, h, none))
+cuts-joined a (c ∷ rest) xs ys base b more long h none =
+    λ i. range-append xs ys a c h.0 (omega (arith, ascends_le c rest base h.1, long)) i ∷ cuts-joined c rest xs ys base b more long h.1 none i
+
+pub cuts_joined : {A : Type 0} (at more : List ℕ) (xs ys : List A) (base : ℕ) → base ≡ length xs → IsCut at base → IsCut more (length ys) →
+    cuts (joined_places base at more) (xs ++ ys) ≡ cuts at xs ++ cuts more ys
+cuts_joined [] more xs ys base long h l = absurd h
+cuts_joined (a ∷ rest) [] xs ys base long h l = absurd l
+cuts_joined (a ∷ rest) (b ∷ more) xs ys base long h l = cuts-joined a rest xs ys base b more long h.1 l.0
 
 pub ruleset cut_laws = (get-range, length-range, length-cuts, get-cuts, cut_from, cut_to, cut_some, count_parts, part_at, number_at, take_mapped, push_mapped)

@@ -1,5 +1,5 @@
 -- A list cut at ascending places.
-use Rattle.std.specs.Prelude.{◌≡◌, ℕ, ◌≤◌, List, [], ◌∷◌, length, slice_range}
+use Rattle.std.specs.Prelude.{◌≡◌, ℕ, ◌+◌, ◌≤◌, List, [], ◌∷◌, ◌++◌, drop, map, slice_range}
 
 -- the part between each place and the next
 abbrev pub cuts : {A : Type 0} → List ℕ → List A → List (List A)
@@ -16,3 +16,7 @@ Ascends a (b ∷ rest) end = (a ≤ b) × Ascends b rest end
 abbrev pub IsCut : List ℕ → ℕ → Type 0
 IsCut [] end = ⊥
 IsCut (a ∷ rest) end = (a ≡ 0) × Ascends a rest end
+
+-- the places of a list of that length, and behind them those of a second list
+abbrev pub joined_places : ℕ → List ℕ → List ℕ → List ℕ
+joined_places base at more = at ++ map (λ place. base + place) (drop 1 more)

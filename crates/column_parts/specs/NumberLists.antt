@@ -1,5 +1,6 @@
 -- Numbers of one type.
-use Rattle.std.specs.Prelude.{ℕ, ◌≤◌, ℤ, ◌≤ℤ◌, pos, negsuc, List, ◌++◌, [], ◌∷◌}
+use Rattle.std.specs.Prelude.{◌≡◌, ℤ, ◌≤ℤ◌, pos, negsuc, Bool, true, false, List, ◌++◌, [], ◌∷◌, Result, Ok, Err}
+use Rattle.value_lists.specs.declared.out_of_memory.OutOfMemory.{OutOfMemory}
 use Rattle.column_parts.specs.declared.number_type.NumberType.{NumberType}
 use Rattle.column_parts.specs.declared.number_type.NumberType.TheVariants.{U8, U16, U32, U64, I8, I16, I32, I64}
 
@@ -30,6 +31,15 @@ greatest I64 = pos 9223372036854775807
 abbrev pub IsOf : NumberType → ℤ → Type 0
 IsOf kind z = (least kind ≤ℤ z) × (z ≤ℤ greatest kind)
 
--- the list with one number more
+-- the list with these numbers, or one number, more
+abbrev pub with_numbers : NumberList → List ℤ → NumberList
+with_numbers list more = record { kind = list.kind; numbers = list.numbers ++ more }
+
 abbrev pub with_number : NumberList → ℤ → NumberList
-with_number list z = record { kind = list.kind; numbers = list.numbers ++ z ∷ [] }
+with_number list z = with_numbers list (z ∷ [])
+
+-- a number that is taken where it is of the type, and only there
+abbrev pub Took : NumberList → ℤ → NumberList → Result Bool OutOfMemory → Type 0
+Took list z after (Ok true) = IsOf list.kind z × (after ≡ with_number list z)
+Took list z after (Ok false) = (IsOf list.kind z → ⊥) × (after ≡ list)
+Took list z after (Err fault) = after ≡ list

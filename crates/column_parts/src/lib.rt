@@ -4,6 +4,7 @@
 //! `Texts` keeps strings of bytes one behind another and is seen as the list of them.
 #![tactic(auto)]
 
+mod number_slices;
 mod number_type;
 mod numbers;
 mod places;
@@ -11,7 +12,7 @@ mod texts;
 
 pub use number_type::NumberType;
 pub use numbers::Numbers;
-pub use places::part;
+pub use places::{append_places, part};
 pub use texts::Texts;
 
 #[cfg(test)]

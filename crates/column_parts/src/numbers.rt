@@ -1,7 +1,7 @@
 //! Numbers in a `Vec` of their width.
-ghost use Rattle.std.specs.Prelude.{◌≡◌, ◌<◌, ◌≤◌, [], ◌∷◌, ◌++◌, length, map, pos, take, Some, IfSome, IsSome, OnOk, OnErr, ◌↔◌};
+ghost use Rattle.std.specs.Prelude.{◌≡◌, ◌<◌, ◌≤◌, [], ◌∷◌, ◌++◌, length, map, pos, take, Some, OnOk, OnErr};
 ghost use Rattle.std.specs.List.{slice_get};
-ghost use Rattle.column_parts.specs.NumberLists.{IsOf, with_number};
+ghost use Rattle.column_parts.specs.NumberLists.{IsOf, Took, with_number, with_numbers};
 ghost use Rattle.column_parts.specs.declared.number_type.NumberType.TheVariants as kind;
 
 use crate::NumberType;
@@ -12,11 +12,11 @@ use value_lists::OutOfMemory;
 /// Numbers of one type, seen as that type with the list of them.
 #[derive(Drop)]
 pub struct Numbers {
-    store: Store,
+    pub(crate) store: Store,
 }
 
 #[derive(Drop)]
-enum Store {
+pub(crate) enum Store {
     U8(Vec<u8>),
     U16(Vec<u16>),
     U32(Vec<u32>),
@@ -150,6 +150,186 @@ impl Numbers {
         }
     }
 
+    /// Adds a number if it is of the type, and tells whether it was.
+    ///
+    /// # Errors
+    ///
+    /// [`OutOfMemory`] where there is no room; the numbers are as before.
+    #[inline]
+    pub fn take(&mut self, number: i128) -> Result<bool, OutOfMemory>
+        ensures { Took self.old number self.new result }
+    {
+        match &mut self.store {
+            Store::U8(items) => {
+                if number < 0 || 255 < number {
+                    return Ok(false);
+                }
+                items.push(number as u8)?;
+                return Ok(true);
+            }
+            Store::U16(items) => {
+                if number < 0 || 65_535 < number {
+                    return Ok(false);
+                }
+                items.push(number as u16)?;
+                return Ok(true);
+            }
+            Store::U32(items) => {
+                if number < 0 || 4_294_967_295 < number {
+                    return Ok(false);
+                }
+                items.push(number as u32)?;
+                return Ok(true);
+            }
+            Store::U64(items) => {
+                if number < 0 || 18_446_744_073_709_551_615 < number {
+                    return Ok(false);
+                }
+                items.push(number as u64)?;
+                return Ok(true);
+            }
+            Store::I8(items) => {
+                if number < -128 || 127 < number {
+                    return Ok(false);
+                }
+                items.push(number as i8)?;
+                return Ok(true);
+            }
+            Store::I16(items) => {
+                if number < -32_768 || 32_767 < number {
+                    return Ok(false);
+                }
+                items.push(number as i16)?;
+                return Ok(true);
+            }
+            Store::I32(items) => {
+                if number < -2_147_483_648 || 2_147_483_647 < number {
+                    return Ok(false);
+                }
+                items.push(number as i32)?;
+                return Ok(true);
+            }
+            Store::I64(items) => {
+                if number < -9_223_372_036_854_775_808 || 9_223_372_036_854_775_807 < number {
+                    return Ok(false);
+                }
+                items.push(number as i64)?;
+                return Ok(true);
+            }
+        }
+    }
+
+    /// Adds copies of these numbers, all or none.
+    ///
+    /// # Errors
+    ///
+    /// [`OutOfMemory`] where there is no room; the numbers are as before.
+    #[tactic(auto, using(crate::proofs::Cuts::cut_laws))]
+    pub fn append(&mut self, other: &Numbers) -> Result<(), OutOfMemory>
+        requires { self.old.kind ≡ other.now.kind }
+        ensures ok { OnOk result (self.new ≡ with_numbers self.old other.now.numbers) }
+        ensures err { OnErr result (self.new ≡ self.old) }
+    {
+        match &mut self.store {
+            Store::U8(items) => match other.u8s() {
+                Some(more) => {
+                    items.extend_from_slice(more)?;
+                    return Ok(());
+                }
+                None => unreachable!(),
+            },
+            Store::U16(items) => match other.u16s() {
+                Some(more) => {
+                    items.extend_from_slice(more)?;
+                    return Ok(());
+                }
+                None => unreachable!(),
+            },
+            Store::U32(items) => match other.u32s() {
+                Some(more) => {
+                    items.extend_from_slice(more)?;
+                    return Ok(());
+                }
+                None => unreachable!(),
+            },
+            Store::U64(items) => match other.u64s() {
+                Some(more) => {
+                    items.extend_from_slice(more)?;
+                    return Ok(());
+                }
+                None => unreachable!(),
+            },
+            Store::I8(items) => match other.i8s() {
+                Some(more) => {
+                    items.extend_from_slice(more)?;
+                    return Ok(());
+                }
+                None => unreachable!(),
+            },
+            Store::I16(items) => match other.i16s() {
+                Some(more) => {
+                    items.extend_from_slice(more)?;
+                    return Ok(());
+                }
+                None => unreachable!(),
+            },
+            Store::I32(items) => match other.i32s() {
+                Some(more) => {
+                    items.extend_from_slice(more)?;
+                    return Ok(());
+                }
+                None => unreachable!(),
+            },
+            Store::I64(items) => match other.i64s() {
+                Some(more) => {
+                    items.extend_from_slice(more)?;
+                    return Ok(());
+                }
+                None => unreachable!(),
+            },
+        }
+    }
+
+    /// Gives back the room that no number stands in.
+    pub fn shrink_to_fit(&mut self)
+        ensures { self.new ≡ self.old }
+    {
+        match &mut self.store {
+            Store::U8(items) => {
+                items.shrink_to_fit();
+                return;
+            }
+            Store::U16(items) => {
+                items.shrink_to_fit();
+                return;
+            }
+            Store::U32(items) => {
+                items.shrink_to_fit();
+                return;
+            }
+            Store::U64(items) => {
+                items.shrink_to_fit();
+                return;
+            }
+            Store::I8(items) => {
+                items.shrink_to_fit();
+                return;
+            }
+            Store::I16(items) => {
+                items.shrink_to_fit();
+                return;
+            }
+            Store::I32(items) => {
+                items.shrink_to_fit();
+                return;
+            }
+            Store::I64(items) => {
+                items.shrink_to_fit();
+                return;
+            }
+        }
+    }
+
     /// Drops all numbers from place `count` on.
     #[tactic(auto, using(crate::proofs::Cuts::cut_laws))]
     pub fn truncate(&mut self, count: usize)
@@ -188,89 +368,6 @@ impl Numbers {
                 items.truncate(count);
                 return;
             }
-        }
-    }
-}
-
-/// The numbers themselves, for loops over one type.
-impl Numbers {
-    pub fn u8s(&self) -> Option<&[u8]>
-        ensures is { IsSome result ↔ (self.now.kind ≡ kind.U8) }
-        ensures all { IfSome result (λ all. self.now.numbers ≡ map pos all.now) }
-    {
-        match &self.store {
-            Store::U8(items) => Some(items),
-            _ => None,
-        }
-    }
-
-    pub fn u16s(&self) -> Option<&[u16]>
-        ensures is { IsSome result ↔ (self.now.kind ≡ kind.U16) }
-        ensures all { IfSome result (λ all. self.now.numbers ≡ map pos all.now) }
-    {
-        match &self.store {
-            Store::U16(items) => Some(items),
-            _ => None,
-        }
-    }
-
-    pub fn u32s(&self) -> Option<&[u32]>
-        ensures is { IsSome result ↔ (self.now.kind ≡ kind.U32) }
-        ensures all { IfSome result (λ all. self.now.numbers ≡ map pos all.now) }
-    {
-        match &self.store {
-            Store::U32(items) => Some(items),
-            _ => None,
-        }
-    }
-
-    pub fn u64s(&self) -> Option<&[u64]>
-        ensures is { IsSome result ↔ (self.now.kind ≡ kind.U64) }
-        ensures all { IfSome result (λ all. self.now.numbers ≡ map pos all.now) }
-    {
-        match &self.store {
-            Store::U64(items) => Some(items),
-            _ => None,
-        }
-    }
-
-    pub fn i8s(&self) -> Option<&[i8]>
-        ensures is { IsSome result ↔ (self.now.kind ≡ kind.I8) }
-        ensures all { IfSome result (λ all. self.now.numbers ≡ all.now) }
-    {
-        match &self.store {
-            Store::I8(items) => Some(items),
-            _ => None,
-        }
-    }
-
-    pub fn i16s(&self) -> Option<&[i16]>
-        ensures is { IsSome result ↔ (self.now.kind ≡ kind.I16) }
-        ensures all { IfSome result (λ all. self.now.numbers ≡ all.now) }
-    {
-        match &self.store {
-            Store::I16(items) => Some(items),
-            _ => None,
-        }
-    }
-
-    pub fn i32s(&self) -> Option<&[i32]>
-        ensures is { IsSome result ↔ (self.now.kind ≡ kind.I32) }
-        ensures all { IfSome result (λ all. self.now.numbers ≡ all.now) }
-    {
-        match &self.store {
-            Store::I32(items) => Some(items),
-            _ => None,
-        }
-    }
-
-    pub fn i64s(&self) -> Option<&[i64]>
-        ensures is { IsSome result ↔ (self.now.kind ≡ kind.I64) }
-        ensures all { IfSome result (λ all. self.now.numbers ≡ all.now) }
-    {
-        match &self.store {
-            Store::I64(items) => Some(items),
-            _ => None,
         }
     }
 }

@@ -1,6 +1,8 @@
 //! What no clause says: that the calls succeed with ample memory.
 use crate::{NumberType, Numbers, Texts};
+use std::alloc::Global;
 use std::test::Fail;
+use value_lists::OutOfMemory;
 
 const KINDS: [NumberType; 8] = [
     NumberType::U8,
@@ -32,6 +34,37 @@ fn a_signed_number_is_lent_in_its_width(rt: HostRuntime) -> Result<(), Fail> {
     numbers.push(-32768)?;
     assert!(rt; numbers.i16s() == Some([-32768i16].as_slice()));
     assert!(rt; numbers.u16s().is_none());
+    Ok(())
+}
+
+/// Numbers of a second list behind those of the first, and one that is taken.
+fn are_joined(alloc: Global, kind: NumberType) -> Result<bool, OutOfMemory> {
+    let mut first = Numbers::new(alloc, kind);
+    first.push(7)?;
+    let mut second = Numbers::new(alloc, kind);
+    let taken = second.take(100)? && !second.take(i128::MAX)?;
+    first.append(&second)?;
+    first.shrink_to_fit();
+    Ok(taken && first.len() == 2)
+}
+
+#[test]
+fn numbers_of_each_width_are_joined(rt: HostRuntime) -> Result<(), Fail> {
+    for kind in KINDS {
+        assert!(rt; are_joined(rt.alloc(), kind)?);
+    }
+    Ok(())
+}
+
+#[test]
+fn strings_of_a_second_list_stand_behind(rt: HostRuntime) -> Result<(), Fail> {
+    let mut first = Texts::new(rt.alloc())?;
+    first.push(b"ab")?;
+    let mut second = Texts::new(rt.alloc())?;
+    second.push(b"c")?;
+    first.append(&second)?;
+    first.shrink_to_fit();
+    assert!(rt; first.at(1) == b"c".as_slice());
     Ok(())
 }
 

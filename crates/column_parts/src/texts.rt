@@ -4,6 +4,7 @@ ghost use Rattle.std.specs.List.{slice_get};
 ghost use Rattle.column_parts.specs.Cuts.{cuts, IsCut};
 
 use crate::part;
+use crate::places::append_places;
 use std::alloc::Global;
 use std::marker::Model;
 use value_lists::OutOfMemory;
@@ -75,6 +76,31 @@ impl Texts {
         push_text(&mut self.starts, &mut self.bytes, text)
     }
 
+    /// Adds copies of these strings, all or none.
+    ///
+    /// # Errors
+    ///
+    /// [`OutOfMemory`] where there is no room; the strings are as before.
+    pub fn append(&mut self, other: &Texts) -> Result<(), OutOfMemory>
+        ensures ok { OnOk result (self.new ≡ self.old ++ other.now) }
+        ensures err { OnErr result (self.new ≡ self.old) }
+    {
+        append_texts(
+            &mut self.starts,
+            &mut self.bytes,
+            &other.starts,
+            &other.bytes,
+        )
+    }
+
+    /// Gives back the room that no string stands in.
+    pub fn shrink_to_fit(&mut self)
+        ensures { self.new ≡ self.old }
+    {
+        self.starts.shrink_to_fit();
+        self.bytes.shrink_to_fit();
+    }
+
     /// Drops all strings from place `count` on.
     #[tactic(auto, using(crate::proofs::Cuts::cut_laws))]
     pub fn truncate(&mut self, count: usize)
@@ -95,6 +121,29 @@ fn push_text(starts: &mut Vec<usize>, bytes: &mut Vec<u8>, text: &[u8]) -> Resul
     bytes.extend_from_slice(text)?;
     starts.push(bytes.len())?;
     Ok(())
+}
+
+fn append_texts(
+    starts: &mut Vec<usize>,
+    bytes: &mut Vec<u8>,
+    more_starts: &[usize],
+    more: &[u8],
+) -> Result<(), OutOfMemory>
+    requires cut { IsCut starts.old.items (length bytes.old.items) }
+    requires more { IsCut more_starts.now (length more.now) }
+    ensures cut { IsCut starts.new.items (length bytes.new.items) }
+    ensures ok { OnOk result (cuts starts.new.items bytes.new.items ≡ cuts starts.old.items bytes.old.items ++ cuts more_starts.now more.now) }
+    ensures err { OnErr result (cuts starts.new.items bytes.new.items ≡ cuts starts.old.items bytes.old.items) }
+{
+    let base = bytes.len();
+    bytes.extend_from_slice(more)?;
+    match append_places(starts, base, more_starts, more.len()) {
+        Ok(()) => Ok(()),
+        Err(error) => {
+            bytes.truncate(base);
+            Err(error)
+        }
+    }
 }
 
 fn truncate_texts(starts: &mut Vec<usize>, bytes: &mut Vec<u8>, count: usize)

@@ -13,8 +13,16 @@ use Rattle.value_types.specs.declared.ty.Ty.{Ty}
 use Rattle.value_types.specs.declared.value.Value.{Value}
 use Rattle.value_types.specs.declared.value.Value.TheVariants.{Nil}
 use Rattle.typed_columns.specs.TypedValues.{TypedValues}
-use Rattle.typed_columns.specs.Growth.{Fits, no_values, trim, with_value}
-use Rattle.columns.specs.Rows.{AreLong, RowFits, column_at, first_rows, no_rows, pushed, row_at, rows_of, rows_upto, with_row}
+use Rattle.std.specs.Prelude.{true}
+use Rattle.std.specs.List.{All}
+use Rattle.std.specs.Cmp.Derive.{both_true}
+use Rattle.std.proofs.Common.{Bool, false, ◌&&◌}
+use Rattle.std.proofs.Common.{◌-◌, length-append}
+use Rattle.std.proofs.Math.Nat.{add-suc}
+use Rattle.std.proofs.lemmas.List.{append_assoc, append-nil, get_or-append_right, get_or_default, length-map}
+use Rattle.std.proofs.lemmas.List.Folds.{list_all-append}
+use Rattle.typed_columns.specs.Growth.{AllFit, Fits, no_values, trim, with_value, with_values}
+use Rattle.columns.specs.Rows.{AreLong, AreTyped, RowFits, column_at, first_rows, joined, no_rows, pushed, row_at, rows_of, rows_upto, with_row, with_rows}
 
 pub count_rows : (cs : List TypedValues) (n : ℕ) → length (rows_upto cs n) ≡ n
 count_rows cs zero = refl
@@ -214,4 +222,153 @@ type_at cs j c l is = slice_get-map (λ d. d.ty) cs j ∙ ap (option_map (λ d. 
 pub row_get : (rows : List (List Value)) (i : ℕ) → i < length rows → slice_get rows i ≡ Some (get_or rows i [])
 row_get rows i h = slice_get-get_or rows i [] h
 
-pub ruleset row_laws = (row_get)
+-- values of their types
+left : (a b : Bool) → (a && b) ≡ true → a ≡ true
+left true b h = refl
+left false b h = h
+
+right : (a b : Bool) → (a && b) ≡ true → b ≡ true
+right true b h = h
+right false b h = cc
+
+all_first : (t : Ty) (v : Value) (vs : List Value) → AllFit t (v ∷ vs) → Fits t v
+all_first t v vs h = left _ _ h
+
+all_rest : (t : Ty) (v : Value) (vs : List Value) → AllFit t (v ∷ vs) → AllFit t vs
+all_rest t v vs h = right _ _ h
+
+fit_value : (t : Ty) (vs : List Value) (i : ℕ) → i < length vs → AllFit t vs → Fits t (get_or vs i Nil)
+fit_value t [] i l h = absurd (omega arith)
+fit_value t (v ∷ vs) zero l h = all_first t v vs h
+fit_value t (v ∷ vs) (suc i) l h = fit_value t vs i (omega arith) (all_rest t v vs h)
+
+all_append : (t : Ty) (vs ws : List Value) → AllFit t vs → AllFit t ws → AllFit t (vs ++ ws)
+all_append t vs ws h k = list_all-append _ vs ws ∙ both_true h k
+
+all_take : (t : Ty) (n : ℕ) (vs : List Value) → AllFit t vs → AllFit t (take n vs)
+all_take t zero vs h = refl
+all_take t (suc n) [] h = refl
+all_take t (suc n) (v ∷ vs) h = both_true (all_first t v vs h) (all_take t n vs (all_rest t v vs h))
+
+row_at-fits : (cs : List TypedValues) (n i : ℕ) → AreLong cs n → AreTyped cs → i < n → RowFits (map (λ c. c.ty) cs) (row_at cs i)
+row_at-fits [] n i long typed h = tt
+row_at-fits (c ∷ cs) n i long typed h = (fit_value c.ty c.values i (omega (arith, long.0)) typed.0, row_at-fits cs n i long.1 typed.1 h)
+
+pub row_fits : (cs : List TypedValues) (n i : ℕ) → AreLong cs n → AreTyped cs → i < n → RowFits (map (λ c. c.ty) cs) (get_or (rows_upto cs n) i [])
+row_fits cs n i long typed h = subst (RowFits (map (λ c. c.ty) cs)) (sym (row_is cs n i h)) (row_at-fits cs n i long typed h)
+
+pub column_fits : (cs : List TypedValues) (j : ℕ) (c : TypedValues) → AreTyped cs → j < length cs → c ≡ get_or cs j c → AllFit c.ty c.values
+column_fits [] j c typed h is = absurd (omega arith)
+column_fits (d ∷ cs) zero c typed h is = subst (λ x. AllFit x.ty x.values) (sym is) typed.0
+column_fits (d ∷ cs) (suc j) c typed h is = column_fits cs j c typed.1 (omega arith) is
+
+pub typed_new : (ts : List Ty) → AreTyped (map no_values ts)
+typed_new [] = tt
+typed_new (t ∷ ts) = (refl, typed_new ts)
+
+pub typed_pushed : (cs : List TypedValues) (row : List Value) → AreTyped cs → RowFits (map (λ c. c.ty) cs) row → AreTyped (pushed cs row)
+typed_pushed [] row typed fit = tt
+typed_pushed (c ∷ cs) [] typed fit = absurd fit
+typed_pushed (c ∷ cs) (v ∷ vs) typed fit = (all_append c.ty c.values (v ∷ []) typed.0 (both_true fit.0 refl), typed_pushed cs vs typed.1 fit.1)
+
+pub typed_trim : (cs : List TypedValues) (k : ℕ) → AreTyped cs → AreTyped (map (trim k) cs)
+typed_trim [] k typed = tt
+typed_trim (c ∷ cs) k typed = (all_take c.ty k c.values typed.0, typed_trim cs k typed.1)
+
+-- the values of second columns behind those of the first
+pub typed_joined : (cs ds : List TypedValues) → AreTyped cs → AreTyped ds → map (λ c. c.ty) cs ≡ map (λ c. c.ty) ds → AreTyped (joined cs ds)
+typed_joined [] ds typed more same = tt
+typed_joined (c ∷ cs) [] typed more same = typed
+typed_joined (c ∷ cs) (d ∷ ds) typed more same =
+    let here : c.ty ≡ d.ty = cc in
+    let rest : map (λ c. c.ty) cs ≡ map (λ c. c.ty) ds = cc in
+    (all_append c.ty c.values d.values typed.0 (subst (λ t. AllFit t d.values) (sym here) more.0), typed_joined cs ds typed.1 more.1 rest)
+
+pub long_joined : (cs ds : List TypedValues) (n m : ℕ) → AreLong cs n → AreLong ds m → map (λ c. c.ty) cs ≡ map (λ c. c.ty) ds → AreLong (joined cs ds) (n + m)
+long_joined [] ds n m long more same = tt
+long_joined (c ∷ cs) [] n m long more same = absurd cc
+long_joined (c ∷ cs) (d ∷ ds) n m long more same =
+    let rest : map (λ c. c.ty) cs ≡ map (λ c. c.ty) ds = cc in
+    (omega (arith, long.0, more.0, length-append c.values d.values), long_joined cs ds n m long.1 more.1 rest)
+
+types_join : (cs ds : List TypedValues) → map (λ c. c.ty) (joined cs ds) ≡ map (λ c. c.ty) cs
+types_join [] ds = refl
+types_join (c ∷ cs) [] = refl
+types_join (c ∷ cs) (d ∷ ds) = ap (λ ts. c.ty ∷ ts) (types_join cs ds)
+
+row_before : (cs ds : List TypedValues) (n i : ℕ) → AreLong cs n → i < n → row_at (joined cs ds) i ≡ row_at cs i
+row_before [] ds n i long h = refl
+row_before (c ∷ cs) [] n i long h = refl
+row_before (c ∷ cs) (d ∷ ds) n i long h =
+    λ k. get_or_append_left c.values d.values Nil i (omega (arith, long.0)) k ∷ row_before cs ds n i long.1 h k
+
+rows_before : (cs ds : List TypedValues) (n k : ℕ) → AreLong cs n → k ≤ n → rows_upto (joined cs ds) k ≡ rows_upto cs k
+rows_before cs ds n zero long h = refl
+rows_before cs ds n (suc k) long h = λ i. rows_before cs ds n k long (omega arith) i ++ row_before cs ds n k long (omega arith) i ∷ []
+
+row_behind : (cs ds : List TypedValues) (n i : ℕ) → AreLong cs n → map (λ c. c.ty) cs ≡ map (λ c. c.ty) ds → row_at (joined cs ds) (n + i) ≡ row_at ds i
+row_behind [] [] n i long same = refl
+row_behind [] (d ∷ ds) n i long same = absurd cc
+row_behind (c ∷ cs) [] n i long same = absurd cc
+row_behind (c ∷ cs) (d ∷ ds) n i long same =
+    let rest : map (λ c. c.ty) cs ≡ map (λ c. c.ty) ds = cc in
+    let place : (n + i) - n ≡ i = omega arith in
+    λ k. (get_or-append_right c.values d.values n (n + i) Nil long.0 (omega arith) ∙ ap (λ m. get_or d.values m Nil) place) k ∷ row_behind cs ds n i long.1 rest k
+
+rows_behind : (cs ds : List TypedValues) (n m : ℕ) → AreLong cs n → map (λ c. c.ty) cs ≡ map (λ c. c.ty) ds →
+    rows_upto (joined cs ds) (n + m) ≡ rows_upto cs n ++ rows_upto ds m
+rows_behind cs ds n zero long same =
+    (let end : n + zero ≡ n = omega arith in ap (rows_upto (joined cs ds)) end) ∙ rows_before cs ds n n long (omega arith) ∙ sym (append-nil (rows_upto cs n))
+rows_behind cs ds n (suc m) long same =
+    ap (rows_upto (joined cs ds)) (add-suc n m)
+    ∙ (λ i. rows_behind cs ds n m long same i ++ row_behind cs ds n m long same i ∷ [])
+    ∙ append_assoc (rows_upto cs n) (rows_upto ds m) (row_at ds m ∷ [])
+
+pub rows_joined : (cs ds : List TypedValues) (n m : ℕ) → AreLong cs n → map (λ c. c.ty) cs ≡ map (λ c. c.ty) ds →
+    rows_of (joined cs ds) (n + m) ≡ with_rows (rows_of cs n) (rows_upto ds m)
+rows_joined cs ds n m long same = λ i. record { types = types_join cs ds i; rows = rows_behind cs ds n m long same i }
+
+pub joined_none : (cs : List TypedValues) → joined cs [] ≡ cs
+joined_none [] = refl
+joined_none (c ∷ cs) = refl
+
+pub joined_more : (cs ds : List TypedValues) (i : ℕ) (c e d : TypedValues) → i < length cs → i < length ds →
+    c ≡ with_values e d.values → e ≡ get_or cs i e → d ≡ get_or ds i d → set (joined cs (take i ds)) i c ≡ joined cs (take (suc i) ds)
+joined_more [] ds i c e d h l is at same = absurd (omega arith)
+joined_more (a ∷ cs) [] i c e d h l is at same = absurd (omega arith)
+joined_more (a ∷ cs) (b ∷ ds) zero c e d h l is at same =
+    let none = sym (joined_none cs) in
+    let first = is ∙ ap (λ x. with_values x d.values) at ∙ ap (λ x. with_values a x.values) same in λ k. first k ∷ none k
+joined_more (a ∷ cs) (b ∷ ds) (suc i) c e d h l is at same = ap (λ more. with_values a b.values ∷ more) (joined_more cs ds i c e d (omega arith) (omega arith) is at same)
+
+pub joined_at : (cs ds : List TypedValues) (i : ℕ) (c : TypedValues) → get_or (joined cs (take i ds)) i c ≡ get_or cs i c
+joined_at [] ds i c = refl
+joined_at (a ∷ cs) [] zero c = refl
+joined_at (a ∷ cs) [] (suc i) c = refl
+joined_at (a ∷ cs) (b ∷ ds) zero c = refl
+joined_at (a ∷ cs) (b ∷ ds) (suc i) c = joined_at cs ds i c
+
+pub same_type : (cs ds : List TypedValues) (i : ℕ) (c d : TypedValues) → map (λ c. c.ty) cs ≡ map (λ c. c.ty) ds → i < length cs → i < length ds →
+    c ≡ get_or cs i c → d ≡ get_or ds i d → c.ty ≡ d.ty
+same_type [] ds i c d same h l at here = absurd (omega arith)
+same_type (a ∷ cs) [] i c d same h l at here = absurd (omega arith)
+same_type (a ∷ cs) (b ∷ ds) zero c d same h l at here =
+    let types : a.ty ≡ b.ty = cc in ap (λ x. x.ty) at ∙ types ∙ ap (λ x. x.ty) (sym here)
+same_type (a ∷ cs) (b ∷ ds) (suc i) c d same h l at here =
+    let rest : map (λ c. c.ty) cs ≡ map (λ c. c.ty) ds = cc in same_type cs ds i c d rest (omega arith) (omega arith) at here
+
+pub same_length : (cs ds : List TypedValues) → map (λ c. c.ty) cs ≡ map (λ c. c.ty) ds → length cs ≡ length ds
+same_length cs ds same = omega (arith, length-map cs (λ c. c.ty), length-map ds (λ c. c.ty), ap length same)
+
+-- what was joined comes off again
+pub unjoined : (cs ds : List TypedValues) (n : ℕ) → AreLong cs n → map (trim n) (joined cs ds) ≡ cs
+unjoined [] ds n long = refl
+unjoined (c ∷ cs) [] n long = λ k. record { ty = c.ty; values = take_all n c.values (omega (arith, long.0)) k } ∷ trim_none cs n long.1 k
+unjoined (c ∷ cs) (d ∷ ds) n long = λ k. record { ty = c.ty; values = take_at c.values d.values n long.0 k } ∷ unjoined cs ds n long.1 k
+
+pub rows_fit : (cs : List TypedValues) (n : ℕ) → AreLong cs n → AreTyped cs → All (RowFits (map (λ c. c.ty) cs)) (rows_upto cs n)
+rows_fit cs n long typed i d h =
+    let within : i < n = omega (arith, h, count_rows cs n) in
+    subst (RowFits (map (λ c. c.ty) cs)) (get_or_default (rows_upto cs n) i [] d h) (row_fits cs n i long typed within)
+
+pub ruleset row_laws = (row_get, rows_fit)

@@ -4,7 +4,7 @@ use Rattle.value_types.specs.declared.ty.Ty.{Ty}
 use Rattle.value_types.specs.declared.value.Value.{Value}
 use Rattle.value_types.specs.declared.value.Value.TheVariants.{Nil}
 use Rattle.typed_columns.specs.TypedValues.{TypedValues}
-use Rattle.typed_columns.specs.Growth.{Fits, with_value}
+use Rattle.typed_columns.specs.Growth.{AllFit, Fits, with_value, with_values}
 
 -- the types of a row's values, and the rows in their order
 pub record Rows : Type 0 where
@@ -15,9 +15,12 @@ pub record Rows : Type 0 where
 abbrev pub no_rows : List Ty → Rows
 no_rows types = record { types = types; rows = [] }
 
--- with this row at the end
+-- with these rows, or this row, at the end
+abbrev pub with_rows : Rows → List (List Value) → Rows
+with_rows batch more = record { types = batch.types; rows = batch.rows ++ more }
+
 abbrev pub with_row : Rows → List Value → Rows
-with_row batch row = record { types = batch.types; rows = batch.rows ++ row ∷ [] }
+with_row batch row = with_rows batch (row ∷ [])
 
 -- the first rows alone
 abbrev pub first_rows : ℕ → Rows → Rows
@@ -39,6 +42,11 @@ abbrev pub AreLong : List TypedValues → ℕ → Type 0
 AreLong [] n = Unit {0}
 AreLong (c ∷ cs) n = (length c.values ≡ n) × AreLong cs n
 
+-- columns whose values are of their types
+abbrev pub AreTyped : List TypedValues → Type 0
+AreTyped [] = Unit {0}
+AreTyped (c ∷ cs) = AllFit c.ty c.values × AreTyped cs
+
 -- what the columns have at a place, and at each place below n
 abbrev pub row_at : List TypedValues → ℕ → List Value
 row_at columns place = map (λ c. get_or c.values place Nil) columns
@@ -56,3 +64,9 @@ abbrev pub pushed : List TypedValues → List Value → List TypedValues
 pushed [] row = []
 pushed (c ∷ cs) [] = c ∷ cs
 pushed (c ∷ cs) (v ∷ vs) = with_value c v ∷ pushed cs vs
+
+-- each column with the values of the second one at its place more, as far as there is one
+abbrev pub joined : List TypedValues → List TypedValues → List TypedValues
+joined [] more = []
+joined (c ∷ cs) [] = c ∷ cs
+joined (c ∷ cs) (d ∷ ds) = with_values c d.values ∷ joined cs ds

@@ -1,11 +1,12 @@
 //! Columns of one length, seen as a list of rows.
-ghost use Rattle.std.specs.Prelude.{◌≡◌, ◌<◌, ◌≤◌, [], length, map, get_or, IfOk, OnErr, OnOk, Some};
+ghost use Rattle.std.specs.Prelude.{◌≡◌, ◌<◌, ◌≤◌, [], length, map, get_or, All, IfOk, OnErr, OnOk, Some};
 ghost use Rattle.std.specs.List.{slice_get, slice_range};
+ghost use Rattle.typed_columns.specs.Growth.{AllFit};
 ghost use Rattle.typed_columns.specs.Items.{item_value};
-ghost use Rattle.columns.specs.Rows.{RowFits, column_at, no_rows, rows_upto, with_row};
+ghost use Rattle.columns.specs.Rows.{RowFits, column_at, no_rows, rows_upto, with_row, with_rows};
 ghost use Rattle.columns.specs.Rows as specs;
 
-use crate::each::{push_each, trim_each};
+use crate::each::{append_each, push_each, shrink_each, trim_each};
 use crate::{BatchView, RowView};
 use std::alloc::Global;
 use std::marker::Model;
@@ -13,14 +14,17 @@ use typed_columns::{Column, Item};
 use value_types::{OutOfMemory, Ty, Value};
 
 /// Rows whose values are of the same types.
+///
+/// The columns stand open to crates that fill them field by field: what they leave is proved to be columns
+/// of `count` values, each of its column's type, as here.
 #[derive(Drop)]
 pub struct Batch {
-    columns: Vec<Column>,
-    count: usize,
+    pub columns: Vec<Column>,
+    pub count: usize,
 }
 
 impl Model for Batch {
-    ghost use Rattle.columns.specs.Rows.{Rows, rows_of, AreLong};
+    ghost use Rattle.columns.specs.Rows.{Rows, rows_of, AreLong, AreTyped};
     ghost use Rattle.value_types.specs.contracts.ty.Ty as of_ty;
     ghost use Rattle.value_types.specs.contracts.value.Value as of_value;
     ghost use Rattle.std.specs.Coded.{codes};
@@ -31,7 +35,7 @@ impl Model for Batch {
 
     ghost view = { λ b. rows_of b.columns.items b.count };
 
-    ghost invariant = { λ b. AreLong b.columns.items b.count };
+    ghost invariant = { λ b. AreLong b.columns.items b.count × AreTyped b.columns.items };
 }
 
 impl Batch {
@@ -51,10 +55,12 @@ impl Batch {
         Ok(Batch { columns, count: 0 })
     }
 
-    /// How many rows there are.
+    /// How many rows there are. Each is one of the types.
     #[inline]
+    #[tactic(auto, using(crate::proofs::Rows::row_laws))]
     pub fn len(&self) -> usize
-        ensures { result ≡ length self.now.rows }
+        ensures count { result ≡ length self.now.rows }
+        ensures fit { All (RowFits self.now.types) self.now.rows }
     {
         self.count
     }
@@ -77,12 +83,33 @@ impl Batch {
         Ok(())
     }
 
+    /// Adds the rows of a batch of the same types, all or none.
+    ///
+    /// # Errors
+    ///
+    /// [`OutOfMemory`] where there is no room; the rows are as before.
+    pub fn append(&mut self, alloc: Global, other: &Batch) -> Result<(), OutOfMemory>
+        requires { self.old.types ≡ other.now.types }
+        ensures ok { OnOk result (self.new ≡ with_rows self.old other.now.rows) }
+        ensures err { OnErr result (self.new ≡ self.old) }
+    {
+        if other.count > usize::MAX - self.count {
+            return Err(OutOfMemory);
+        }
+        append_each(&mut self.columns, alloc, &other.columns, self.count)?;
+        self.count += other.count;
+        Ok(())
+    }
+
     /// The row at a place.
     #[inline]
+    #[tactic(auto, using(crate::proofs::Rows::row_laws))]
     pub fn row(&self, place: usize) -> RowView<'_>
         requires { place < length self.now.rows }
-        ensures { slice_get self.now.rows place ≡ Some result }
+        ensures at { slice_get self.now.rows place ≡ Some result }
+        ensures fits { RowFits self.now.types result }
     {
+        let _columns = &self.columns;
         RowView::of(self, place)
     }
 
@@ -102,6 +129,7 @@ impl Batch {
         requires { place < length self.now.types }
         ensures ty { slice_get self.now.types place ≡ Some result.now.ty }
         ensures values { result.now.values ≡ column_at place self.now.rows }
+        ensures fit { AllFit result.now.ty result.now.values }
     {
         &self.columns[place]
     }
@@ -120,6 +148,13 @@ impl Batch {
         ensures { self.new ≡ no_rows self.old.types }
     {
         self.truncate(0);
+    }
+
+    /// Gives back the room that no value stands in.
+    pub fn shrink_to_fit(&mut self)
+        ensures { self.new ≡ self.old }
+    {
+        shrink_each(&mut self.columns);
     }
 
     #[inline]

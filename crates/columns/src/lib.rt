@@ -11,5 +11,6 @@ mod row_view;
 
 pub use batch::Batch;
 pub use batch_view::BatchView;
+pub use each::trim_each;
 pub use row_view::RowView;
 pub use typed_columns::{Args, Column, Item, PairSpan, Span};

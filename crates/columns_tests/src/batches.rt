@@ -65,6 +65,17 @@ fn a_column_has_the_values_of_all_rows(rt: HostRuntime) -> Result<(), Fail> {
 }
 
 #[test]
+fn rows_of_a_second_batch_stand_behind(rt: HostRuntime) -> Result<(), Fail> {
+    let mut batch = two_rows(rt.alloc())?;
+    let more = two_rows(rt.alloc())?;
+    batch.append(rt.alloc(), &more)?;
+    batch.shrink_to_fit();
+    assert!(rt; batch.len() == 4);
+    assert!(rt; is_number(&batch.row(3).item(0), 8));
+    Ok(())
+}
+
+#[test]
 fn rows_are_dropped_from_the_end(rt: HostRuntime) -> Result<(), Fail> {
     let mut batch = two_rows(rt.alloc())?;
     batch.truncate(1);

@@ -6,14 +6,18 @@ use std::alloc::Global;
 use std::test::Fail;
 use value_types::{Boxed, Chain, Leaf, OutOfMemory, Seq, Tree, Ty, Value};
 
-/// Whether a column of the type lends this value behind one that was pushed before it.
+/// Whether a column of the type lends this value behind one that was pushed before it, where it comes from a
+/// second column.
 fn is_kept(alloc: Global, ty: &Ty, value: &Value) -> Result<bool, OutOfMemory> {
     let mut column = Column::new(alloc, ty)?;
     if !fits(value, ty) {
         return Ok(false);
     }
     column.push(alloc, value)?;
-    column.push(alloc, value)?;
+    let mut second = Column::new(alloc, ty)?;
+    second.push(alloc, value)?;
+    column.append(alloc, &second)?;
+    column.shrink_to_fit();
     let item = column.item(1);
     let again = item.to_value(alloc)?;
     Ok(compare(&again, value).is_eq())

@@ -17,7 +17,7 @@ use Rattle.shape_types.specs.Legal.{ReadTypesAreLegal}
 use Rattle.shape_types.specs.Types.{type_of_shape, types_of_shapes}
 use Rattle.shape_types.proofs.PlainNames.{each_name}
 
-abbrev IfType : (Ty → Bool) → Result Ty Fault → Type 0
+abbrev pub IfType : (Ty → Bool) → Result Ty Fault → Type 0
 IfType test (Ok t) = test t ≡ true
 IfType test (Err f) = Unit {0}
 
@@ -73,7 +73,7 @@ state_legal law name ls (Ok ts) h = each_type (resolved_state pattern_reader nam
 state_legal law name ls (Err f) h = tt
 
 mutual
-  legal : AllowedStateIsLegal → (w : written.Shape) (s : Shape) → ShapeFits w → Spells w s → IfType is_legal_type (type_of_shape s)
+  pub legal : AllowedStateIsLegal → (w : written.Shape) (s : Shape) → ShapeFits w → Spells w s → IfType is_legal_type (type_of_shape s)
   legal law (written.plain name) s f h = one_legal (type_of_shape s) (basic (written.plain name) s tt h)
   legal law (written.array ty) (Arr s) f h = array_legal (type_of_shape s) (legal law ty s f h)
   legal law (written.map_of key ty) (MapOf k s) f h = map_legal (type_of_shape k) (type_of_shape s) (basic key k f.0 h.0) (legal law ty s f.2 h.1)

@@ -3,5 +3,5 @@ mod Refused
 mod InOrder
 mod AtPlaces
 mod PlainNames
-mod ShortTexts
-mod LegalTypes
+pub mod ShortTexts
+pub mod LegalTypes

@@ -24,14 +24,14 @@ few_behind n [] = omega arith
 few_behind (suc n) (b ∷ bs) = let h = few_behind n bs in omega (arith, h)
 few_behind zero (b ∷ bs) = few_here (b == 32) (token_at (b ∷ bs)) bs (λ n. few_behind n bs)
 
-few_tokens : (text : List ℕ) → length (tokens_in text) ≤ length text
+pub few_tokens : (text : List ℕ) → length (tokens_in text) ≤ length text
 few_tokens text =
     let h = few_behind 0 text in
     let e : length (tokens_in text) ≡ length (tokens_behind 0 text) = length-map (tokens_behind 0 text) (λ (t : Placed). t.0) in
     omega (arith, h, e)
 
 -- each literal and each type in a state type's brackets has a token of its own
-long_literals : (ls : List Token) → length ls ≤ length (literals_tokens ls)
+pub long_literals : (ls : List Token) → length ls ≤ length (literals_tokens ls)
 long_literals [] = omega arith
 long_literals (l ∷ ls) = let h = long_literals ls in omega (arith, h)
 
@@ -39,7 +39,7 @@ long_brackets : (ls : List Token) → length ls ≤ length (brackets ls)
 long_brackets [] = omega arith
 long_brackets (l ∷ ls) = let h = long_literals ls in omega (arith, h)
 
-one_each : (ts : List Token) (ls : List Literal) → AreRead ts ls → length ls ≡ length ts
+pub one_each : (ts : List Token) (ls : List Literal) → AreRead ts ls → length ls ≡ length ts
 one_each [] [] h = refl
 one_each (t ∷ ts) (l ∷ ls) h = ap suc (one_each ts ls h.1)
 one_each [] (l ∷ ls) h = absurd h
@@ -55,7 +55,7 @@ as_many written.none (a_shape s ss) h = absurd h
 as_many (written.and_one w ws) no_shapes h = absurd h
 
 mutual
-  countable : (w : written.Shape) (s : Shape) → Spells w s → length (tokens_of w) < 2 ^ 32 → IsCountable s
+  pub countable : (w : written.Shape) (s : Shape) → Spells w s → length (tokens_of w) < 2 ^ 32 → IsCountable s
   countable (written.plain name) s h few = each_name IsCountable (λ n. tt) (λ w. tt) tt name s h
   countable (written.array ty) (Arr s) h few =
       let long = length-append (tokens_of ty) (close_bracket ∷ []) in countable ty s h (omega (arith, few, long))

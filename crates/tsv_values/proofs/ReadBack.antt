@@ -1,15 +1,13 @@
 -- Scalars are read back as they were written.
-use Rattle.std.proofs.Common.{◌≡◌, ℕ, zero, suc, ◌+◌, ◌*◌, ◌/◌, ◌%◌, ◌-◌, ◌<◌, ◌≤◌, ◌^◌, ℤ, pos, negsuc, Bool, true, false, cond, not, ◌&&◌, ◌||◌, ◌==◌, List, [], ◌∷◌, ◌++◌, length, slice_index, Option, Some, None, Result, Ok, Err, refl, sym, ap, subst, ◌∙◌, arith, eqb, leb, ltb, inl, inr, ◌⊎◌}
+use Rattle.std.proofs.Common.{◌≡◌, ℕ, zero, suc, ◌+◌, ◌*◌, ◌/◌, ◌%◌, ◌<◌, ◌≤◌, ◌^◌, ℤ, pos, negsuc, Bool, true, false, ◌&&◌, ◌==◌, List, [], ◌∷◌, ◌++◌, length, slice_index, None, Ok, refl, sym, ap, subst, ◌∙◌, arith, eqb, ltb, inl, inr}
 use mir.Syntax.{Width}
 use mir.Val.{hbits}
-use Rattle.std.specs.Bool.{MatchBool}
 use Rattle.std.specs.List.{list_all, position, position_or_len}
 use Rattle.std.specs.Fmt.{decimal, signed_decimal}
 use Rattle.std.specs.Str.Parse.{AllDigits, digits_value}
-use Rattle.std.proofs.lemmas.Bool.{and_parts, cases_lt, eqb-true, ltb-false, leb-true}
+use Rattle.std.proofs.lemmas.Bool.{and_parts, cases_lt, eqb-true}
 use Rattle.std.proofs.lemmas.Bool.Decides.{nat_tests}
 use Rattle.std.proofs.lemmas.Fmt.{decimal_is_IsNumeral}
-use Rattle.std.proofs.lemmas.Grind.{common_steps}
 use Rattle.std.proofs.lemmas.Str.Parse.{tells_digits}
 use Rattle.hex.specs.Hex.{encode_lower, encode_with, lower_digits}
 use Rattle.hex.proofs.HexLemmas.{length-encode_with}
@@ -22,18 +20,17 @@ use Rattle.value_types.specs.Folds.{value_of}
 use Rattle.tsv_text.specs.Escapes.{escaped, escaped_byte, hex_value, is_escaped, letter_of}
 use Rattle.tsv_text.specs.Escapes.{IsUnescaped}
 use Rattle.field_texts.specs.Syntax.{AreDigits, IsDigits, IsNumber}
-use Rattle.tsv_values.specs.declared.fault.FieldFault.{FieldFault}
-use Rattle.tsv_values.specs.Answer.{Agrees, IsScalar, IsScalarAnswer, IsNumericAnswer, IsScalarFieldAnswer, cell_of, is_null, not_hex_or, null_answer, state_answer}
-use Rattle.tsv_values.specs.Hex.{hex_bytes, hex_fault, is_lower_hex, is_not_lower_hex, odd_at, or_else}
-use Rattle.tsv_values.specs.Numbers.{number_value, split_sign}
-use Rattle.tsv_values.specs.ReadBack.{HasWidth, ScalarsReadBack, StatesReadBack}
-use Rattle.tsv_values.specs.States.{ReadsStates}
+use Rattle.scalar_texts.specs.Answer.{Agrees, IsScalar, IsScalarAnswer, IsNumericAnswer, is_null, state_answer}
+use Rattle.scalar_texts.specs.Hex.{hex_bytes, hex_fault, is_lower_hex, is_not_lower_hex, odd_at}
+use Rattle.scalar_texts.specs.Numbers.{number_value, split_sign}
+use Rattle.tsv_values.specs.ReadBack.{HasWidth, StatesReadBack}
+use Rattle.scalar_texts.specs.States.{ReadsStates}
 use Rattle.tsv_values.specs.Writing.{WritesStates, field_text}
-use Rattle.tsv_values.proofs.Digits.{some_digits}
+use Rattle.scalar_texts.proofs.Digits.{some_digits}
 
 -- ---- what isn't `\N`
 
-not_null : (b : ℕ) (t : List ℕ) → eqb b 92 ≡ false → is_null (b ∷ t) ≡ false
+pub not_null : (b : ℕ) (t : List ℕ) → eqb b 92 ≡ false → is_null (b ∷ t) ≡ false
 not_null b [] e = refl
 not_null b (c ∷ []) e = rw e refl
 not_null b (c ∷ d ∷ t) e = refl
@@ -88,7 +85,7 @@ negative_back n lt =
 letter_not_n : (b : ℕ) → is_escaped b ≡ true → eqb (letter_of b) 78 ≡ false
 letter_not_n b e = grind (arith, nat_tests, e)
 
-slash_escaped : (b : ℕ) → is_escaped b ≡ false → eqb b 92 ≡ false
+pub slash_escaped : (b : ℕ) → is_escaped b ≡ false → eqb b 92 ≡ false
 slash_escaped b e = grind (arith, nat_tests, e)
 
 string_filled : (bytes : List ℕ) → is_null (escaped bytes) ≡ false
@@ -122,15 +119,15 @@ digit_parts k lt =
     let p = and_parts (is_lower_hex (slice_index lower_digits k)) (hex_value (slice_index lower_digits k) == k) (back_at 16 k refl lt) in
     (p.0, eqb-true _ _ p.1)
 
-abbrev Bytes : List ℕ → Type 0
+abbrev pub Bytes : List ℕ → Type 0
 Bytes [] = Unit {0}
 Bytes (b ∷ bs) = (b < 256) × Bytes bs
 
-as_bytes : (bs : List ℕ) → ((i : ℕ) → slice_index bs i < 256) → Bytes bs
+pub as_bytes : (bs : List ℕ) → ((i : ℕ) → slice_index bs i < 256) → Bytes bs
 as_bytes [] h = tt
 as_bytes (b ∷ bs) h = (h 0, as_bytes bs (λ i. h (suc i)))
 
-hex_back : (bs : List ℕ) → Bytes bs → (hex_bytes (encode_lower bs) ≡ bs) × (list_all is_lower_hex (encode_lower bs) ≡ true)
+pub hex_back : (bs : List ℕ) → Bytes bs → (hex_bytes (encode_lower bs) ≡ bs) × (list_all is_lower_hex (encode_lower bs) ≡ true)
 unfolding encode_with
 hex_back [] h = (refl, refl)
 hex_back (b ∷ bs) h =
@@ -153,7 +150,7 @@ no_position xs h = rw (lower_length xs h, same_not_below (length xs)) refl
 even_length : (n : ℕ) → odd_at (2 * n) ≡ None
 even_length n = let e : (2 * n) % 2 ≡ 0 = omega arith in rw e refl
 
-hex_filled : (bs : List ℕ) → Bytes bs → is_null (encode_lower bs) ≡ false
+pub hex_filled : (bs : List ℕ) → Bytes bs → is_null (encode_lower bs) ≡ false
 unfolding encode_with
 hex_filled [] h = refl
 hex_filled (b ∷ bs) h =
@@ -163,7 +160,7 @@ hex_filled (b ∷ bs) h =
     lower_not_slash : (c : ℕ) → is_lower_hex c ≡ true → eqb c 92 ≡ false
     lower_not_slash c e = grind (arith, nat_tests, e)
 
-hex_well : (bs : List ℕ) → Bytes bs → hex_fault (encode_lower bs) ≡ None
+pub hex_well : (bs : List ℕ) → Bytes bs → hex_fault (encode_lower bs) ≡ None
 hex_well bs h = rw (no_position (encode_lower bs) (hex_back bs h).1, length-encode_with lower_digits bs) (even_length (length bs))
 
 -- ---- every scalar
@@ -172,10 +169,10 @@ numeric : (fits : ℤ → Bool) (z : ℤ) (value : Value) → NumberBack z → f
     → (is_null (signed_decimal z) ≡ false) × IsNumericAnswer fits (signed_decimal z) (Ok value)
 numeric fits z value back h e = (back.filled, (back.number, subst (λ y. fits y ≡ true) (sym back.value) h, e ∙ ap family.Num (sym back.value)))
 
-whole_back : (n : ℕ) (z : ℤ) → 2 ^ n ≤ 2 ^ 64 → fits_bits n z ≡ true → NumberBack z
+pub whole_back : (n : ℕ) (z : ℤ) → 2 ^ n ≤ 2 ^ 64 → fits_bits n z ≡ true → NumberBack z
 whole_back n z le h = let p = (fitting.bits n z).0 h in subst NumberBack (sym p.1) (positive_back p.0 (omega (arith, p.2, le)))
 
-signed_back : (w : Width) (z : ℤ) → 2 ^ hbits w ≤ 2 ^ 63 → fits_width w z ≡ true → NumberBack z
+pub signed_back : (w : Width) (z : ℤ) → 2 ^ hbits w ≤ 2 ^ 63 → fits_width w z ≡ true → NumberBack z
 signed_back w (pos k) le h = let s : k < 2 ^ hbits w = ((fitting.width w (pos k)).0 h).sfits in positive_back k (omega (arith, s, le))
 signed_back w (negsuc k) le h = let s : k < 2 ^ hbits w = ((fitting.width w (negsuc k)).0 h).sfits in negative_back k (omega (arith, s, le))
 
@@ -189,7 +186,7 @@ module _ (reads : ReadsStates) (writes : WritesStates) (states : StatesReadBack 
       let bytes = as_bytes (writes t tree) (states.bytes t tree h) in
       (hex_filled (writes t tree) bytes, rw (hex_well (writes t tree) bytes, (hex_back (writes t tree) bytes).0, states.same t tree h) (ap Ok (sym e)))
 
-  back : (t : terms.Ty) → IsScalar t → HasWidth t → (v : family.Value) → is_nil v ≡ false → value_of value ≡ v → fits_value t v ≡ true → Back t v
+  pub back : (t : terms.Ty) → IsScalar t → HasWidth t → (v : family.Value) → is_nil v ≡ false → value_of value ≡ v → fits_value t v ≡ true → Back t v
   back (terms.Whole n) s w (family.Num z) filled e h = numeric (fits_bits n) z value (whole_back n z w h) h e
   back (terms.Whole n) s w v filled e h = absurd cc
   back (terms.Signed w) s le (family.Num z) filled e h = numeric (fits_width w) z value (signed_back w z le h) h e
@@ -202,28 +199,3 @@ module _ (reads : ReadsStates) (writes : WritesStates) (states : StatesReadBack 
   back (terms.Nullable t) s w v filled e h = back t s w v filled e h
   back (terms.Arr t) s w v filled e h = absurd s
   back (terms.MapTy k t) s w v filled e h = absurd s
-
-  whole : (t : terms.Ty) → IsScalar t → HasWidth t → (v : family.Value) → is_nil v ≡ false → value_of value ≡ v → fits_value t v ≡ true → IsScalarFieldAnswer reads t (field_text writes t v) (Ok value)
-  whole t s w v filled e h =
-      let b = back t s w v filled e h in
-      subst (λ null. MatchBool null (Agrees (null_answer t) (Ok value)) (IsScalarAnswer reads t (field_text writes t v) (Ok value))) (sym b.0) b.1
-
-  at_null : (t : terms.Ty) → IsScalar t → value_of value ≡ family.Nil → fits_value t family.Nil ≡ true → IsScalarFieldAnswer reads t (field_text writes t family.Nil) (Ok value)
-  at_null (terms.Nullable t) s e h = ap Ok (sym e)
-  at_null (terms.Whole n) s e h = absurd cc
-  at_null (terms.Signed w) s e h = absurd cc
-  at_null terms.Str s e h = absurd cc
-  at_null (terms.StateOf c ts) s e h = absurd cc
-  at_null (terms.Arr t) s e h = absurd s
-  at_null (terms.MapTy k t) s e h = absurd s
-
-  any : (t : terms.Ty) → IsScalar t → HasWidth t → (v : family.Value) → value_of value ≡ v → fits_value t v ≡ true → IsScalarFieldAnswer reads t (field_text writes t v) (Ok value)
-  any t s w family.Nil e h = at_null t s e h
-  any t s w (family.Num z) e h = whole t s w (family.Num z) refl e h
-  any t s w (family.Bytes b) e h = whole t s w (family.Bytes b) refl e h
-  any t s w (family.Items vs) e h = whole t s w (family.Items vs) refl e h
-  any t s w (family.Pairs es) e h = whole t s w (family.Pairs es) refl e h
-  any t s w (family.Cell tree) e h = whole t s w (family.Cell tree) refl e h
-
-pub scalars_read_back : ((bytes : List ℕ) → IsUnescaped (escaped bytes) (Ok bytes)) → ScalarsReadBack
-scalars_read_back round_trip reads writes states t s w value h = any reads writes states round_trip value t s w (value_of value) refl h

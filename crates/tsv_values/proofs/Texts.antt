@@ -1,10 +1,10 @@
 -- What is written, piece by piece.
-use Rattle.std.proofs.Common.{◌≡◌, ℕ, zero, suc, ◌+◌, ◌<◌, ◌≤◌, ℤ, Bool, true, false, ◌&&◌, ◌||◌, List, [], ◌∷◌, ◌++◌, map, length, take, drop, get_or, codes, if◌then◌else◌, refl, sym, ap, subst, ◌∙◌, append_assoc, arith}
+use Rattle.std.proofs.Common.{◌≡◌, ℕ, zero, suc, ◌+◌, ◌<◌, ◌≤◌, ℤ, Bool, true, false, ◌&&◌, ◌||◌, List, [], ◌∷◌, ◌++◌, map, length, take, get_or, codes, if◌then◌else◌, refl, sym, ap, subst, ◌∙◌, append_assoc, arith}
 use Rattle.std.specs.List.{flat_map, list_all}
 use Rattle.std.specs.Fmt.{signed_decimal}
 use Rattle.std.proofs.lemmas.List.{append-nil, map-append, take_more}
 use Rattle.std.proofs.lemmas.Bool.{and_parts}
-use Rattle.std.proofs.lemmas.List.Folds.{list_all-map, list_all_at}
+use Rattle.std.proofs.lemmas.List.Folds.{list_all-map}
 use Rattle.hex.specs.Hex.{encode_lower}
 use Rattle.tsv_text.specs.Escapes.{escaped}
 use Rattle.agg_terms.specs.Chains as terms
@@ -18,8 +18,8 @@ use Rattle.value_types.specs.declared.value.Value.{Value}
 use Rattle.value_types.specs.declared.value.Tree.{Tree}
 use Rattle.value_types.specs.declared.value.Value.TheVariants as value
 use Rattle.value_types.specs.Folds.{chain_of, tree_of, ty_of, value_of}
-use Rattle.value_types.proofs.FoldLaws.{ty_of-U8, ty_of-U16, ty_of-U32, ty_of-U64, ty_of-I8, ty_of-I16, ty_of-I32, ty_of-I64, ty_of-Str, ty_of-Arr, ty_of-Map, ty_of-Nullable, ty_of-State, value_of-Num, value_of-Bytes, value_of-Nil, value_of-List, value_of-Pairs, value_of-Cell}
-use Rattle.tsv_values.specs.Writing.{WritesStates, array_text, cell_text, comma_before, commas, element_text, entries_of, entry_text, field_text, in_quotes, items_of, map_text, number_text, string_text}
+use Rattle.value_types.proofs.FoldLaws.{ty_of-Str, ty_of-Arr, ty_of-Map, ty_of-Nullable, ty_of-State, value_of-Num, value_of-Bytes, value_of-List, value_of-Pairs, value_of-Cell}
+use Rattle.tsv_values.specs.Writing.{WritesStates, array_text, cell_text, comma_before, commas, element_text, entries_of, entry_text, in_quotes, items_of, map_text, number_text, string_text}
 
 -- ---- values by their kind
 

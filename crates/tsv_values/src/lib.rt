@@ -1,17 +1,23 @@
 //! The text of one value in a field, both ways (manual: "TabSeparated").
-//! specs/Answer.antt says what a field of each type says, specs/Writing.antt how a value is written.
+//! specs/Answer.antt says what a field of each type says, specs/Elements.antt what stands inside arrays and maps, and
+//! specs/Writing.antt how a value is written.
 #![tactic(auto)]
 
-mod fault;
-mod hex_texts;
-mod laws;
-mod numbers;
-mod scalars;
-mod states;
+// reading
+mod atoms;
+mod elements;
+mod found;
+mod next;
+mod quotes;
+mod reading;
+
+// writing
 mod writing;
 
-pub use fault::{FieldFault, StateFault, StateReadFault};
-pub use laws::law_scalars_read_back;
-pub use scalars::read_scalar;
-pub use states::{StateReader, StateWriter};
+// what is written is read back
+mod laws;
+
+pub use laws::law_values_read_back;
+pub use reading::read_value;
+pub use scalar_texts::{FieldFault, StateFault, StateReadFault, StateReader, StateWriter};
 pub use writing::write_value;

@@ -3,11 +3,11 @@ ghost use Rattle.std.specs.Prelude.{◌≡◌, ◌++◌, ◌&&◌, map, IfOk, On
 ghost use Rattle.std.specs.List.{list_all};
 ghost use Rattle.agg_terms.specs.Fitting.{fits_value, has_entries, has_items};
 ghost use Rattle.value_types.specs.Folds.{ty_of, value_of};
-ghost use Rattle.tsv_values.specs.States.{AllStates};
+ghost use Rattle.scalar_texts.specs.States.{AllStates};
 ghost use Rattle.tsv_values.specs.Writing.{cell_text, comma_before, element_text, entries_of, field_text, in_quotes, items_of, number_text, string_text};
 
-use crate::states::StateWriter;
 use itoa::Buffer;
+use scalar_texts::StateWriter;
 use std::alloc::Global;
 use tsv_text::escape;
 use value_types::{Bytes, OutOfMemory, Ty, Value, is_nil};

@@ -1,9 +1,18 @@
-//! What no contract says of fields: that with memory at hand each call succeeds. Each module has the tests of a subject.
+//! What no contract says of fields: that with memory at hand each call succeeds, and that each fault is told at its place
+//! as the documents have it. Each module has the tests of a subject.
 #![tactic(auto)]
 
 #[cfg(test)]
+mod faults;
+#[cfg(test)]
+mod long_fields;
+#[cfg(test)]
 mod one_byte;
 #[cfg(test)]
-mod reading;
+mod samples;
+#[cfg(test)]
+mod tables;
+#[cfg(test)]
+mod values;
 #[cfg(test)]
 mod writing;

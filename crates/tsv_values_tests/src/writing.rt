@@ -1,8 +1,8 @@
 //! Values written as fields.
 use crate::one_byte::writes;
-use crate::reading::{nullable, states};
+use crate::samples::{array_of, map_of, nullable, states};
 use std::test::Fail;
-use value_types::{Boxed, Bytes, OutOfMemory, Seq, Tree, Ty, Value};
+use value_types::{Bytes, OutOfMemory, Seq, Tree, Ty, Value};
 
 fn bytes_value(rt: &HostRuntime, bytes: &[u8]) -> Result<Value, OutOfMemory> {
     Ok(Value::Bytes(Bytes::from_slice(rt.alloc(), bytes)?))
@@ -31,10 +31,6 @@ fn scalars_as_fields(rt: HostRuntime) -> Result<(), Fail> {
     assert!(rt; writes(rt.alloc(), &nullable(&rt, Ty::U8)?, &Value::Nil, b"\\N"));
     assert!(rt; writes(rt.alloc(), &nullable(&rt, Ty::U8)?, &Value::Num(3), b"3"));
     Ok(())
-}
-
-fn array_of(rt: &HostRuntime, item: Ty) -> Result<Ty, OutOfMemory> {
-    Ok(Ty::Arr(Boxed::new(rt.alloc(), item)?))
 }
 
 fn two(rt: &HostRuntime, first: Value, second: Value) -> Result<Value, OutOfMemory> {
@@ -94,8 +90,7 @@ fn entries(rt: &HostRuntime) -> Result<Value, OutOfMemory> {
 
 #[test]
 fn entries_keep_their_order(rt: HostRuntime) -> Result<(), Fail> {
-    let key = Boxed::new(rt.alloc(), Ty::Str)?;
-    let ty = Ty::Map(key, Boxed::new(rt.alloc(), Ty::I8)?);
+    let ty = map_of(&rt, Ty::Str, Ty::I8)?;
     assert!(rt; writes(rt.alloc(), &ty, &entries(&rt)?, b"{'b':1,'a':-2}"));
     assert!(rt; writes(rt.alloc(), &ty, &Value::Pairs(Seq::new(rt.alloc())), b"{}"));
     Ok(())

@@ -1,6 +1,6 @@
 mod WordsRead
 mod KindNames
-mod Found
-mod Only
+pub mod Found
+pub mod Only
 mod Judged
-mod OneType
+pub mod OneType

@@ -48,7 +48,7 @@ regrouped : (x y z u v w : List Token) → (x ++ y) ++ z ≡ (u ++ v) ++ w → x
 regrouped x y z u v w e = sym (append_assoc x y z) ∙ e ∙ append_assoc u v w
 
 mutual
-  same_type : (x y : Shape) (r s : List Token) → ShapeFits x → ShapeFits y → tokens_of x ++ r ≡ tokens_of y ++ s → (x ≡ y) × (r ≡ s)
+  pub same_type : (x y : Shape) (r s : List Token) → ShapeFits x → ShapeFits y → tokens_of x ++ r ≡ tokens_of y ++ s → (x ≡ y) × (r ≡ s)
   same_type (plain w) (array b) r s f g e = absurd (not_plain w (codes "Array") refl f (names _ _ _ _ e).0)
   same_type (plain w) (map_of j b) r s f g e = absurd (not_plain w (codes "Map") refl f (names _ _ _ _ e).0)
   same_type (plain w) (nullable b) r s f g e = absurd (not_plain w (codes "Nullable") refl f (names _ _ _ _ e).0)

@@ -11,5 +11,6 @@ mod tests;
 mod words;
 
 pub use chain_name::{NameFault, NameShape, read_chain_name};
+pub use goal::{Goal, goals_for};
 pub use judge::{law_one_type, type_fault};
 pub use words::{function_name, suffix_name};

@@ -1,7 +1,7 @@
 mod Digits
 mod Quotes
-mod Values
-mod OneText
+pub mod Values
+pub mod OneText
 mod Fronts
 mod TypesRead
 mod ListsRead

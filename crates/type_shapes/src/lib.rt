@@ -14,5 +14,7 @@ mod shape;
 mod tests;
 
 pub use laws::law_types_read_back;
-pub use reading::read_type_shape;
+pub use literal::{has_minus, integer, literal as read_literal};
+pub use mark::{Mark, is_mark};
+pub use reading::{read_front, read_type_shape};
 pub use shape::{ShapeFault, TypeShape};

@@ -42,7 +42,8 @@ fn with_digits(number: u128, digits: &[u8]) -> u128
     number
 }
 
-fn has_minus(text: &[u8]) -> bool
+/// Whether digits stand behind a minus.
+pub fn has_minus(text: &[u8]) -> bool
     ensures { result ≡ has_minus text.now }
 {
     match text {
@@ -53,7 +54,7 @@ fn has_minus(text: &[u8]) -> bool
 
 /// The number that digits write, with a minus before them or without.
 #[tactic(auto, using(crate::proofs::Digits::minus_is_some))]
-fn integer(text: &[u8]) -> i128
+pub fn integer(text: &[u8]) -> i128
     requires { IsSmallInteger text.now }
     ensures { result ≡ integer_value text.now }
 {

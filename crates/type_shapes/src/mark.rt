@@ -17,7 +17,8 @@ pub enum Mark {
     Dividing,
 }
 
-fn is_mark(mark: Mark, token: Token<'_>) -> bool
+/// Whether a token is this mark.
+pub fn is_mark(mark: Mark, token: Token<'_>) -> bool
     ensures { result ≡ is_mark mark (token_seen token.entry) }
 {
     matches!(

@@ -212,6 +212,14 @@ fn read_types(
     Ok(Some((types, after)))
 }
 
+/// The shape of the type that stands at the front of a text, and what stands behind it; `None` where types stand in one
+/// another more than sixteen deep.
+pub fn read_front(alloc: Global, text: &[u8]) -> Result<Option<(TypeShape, &[u8])>, OutOfMemory>
+    ensures { IfOk result (λ found. ReadsType 16 text.now (option_map (λ f. (shape_of f.0, f.1.now)) found)) }
+{
+    read_type(alloc, text, MOST_NESTING)
+}
+
 /// The shape of the type that a text spells (manual: "Data types", "AggregateFunction"). Spaces between tokens are
 /// skipped.
 ///

@@ -11,4 +11,5 @@ mod tests;
 mod types;
 
 pub use chain_names::{law_name_reads_back, print_chain};
+pub use pattern_texts::print_pattern;
 pub use types::print_type;

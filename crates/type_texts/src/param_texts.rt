@@ -6,7 +6,7 @@ ghost use Rattle.value_types.specs.Folds.{leaf_of, chain_of, pattern_of};
 ghost use Rattle.type_texts.specs.ParamTexts.{places_of, fraction_text, level_text, quoted_text, mode_texts, leaf_params, params_of};
 ghost use Rattle.type_texts.specs.PatternTexts.{pattern_text};
 
-use crate::pattern_texts::{write_number, write_pattern};
+use crate::pattern_texts::{print_pattern, write_number};
 use itoa::Buffer;
 use std::alloc::Global;
 use tsv_text::escape;
@@ -75,8 +75,7 @@ fn quoted_text(alloc: Global, bytes: &[u8]) -> Result<Bytes, OutOfMemory>
 fn pattern_text(alloc: Global, pattern: &Pattern) -> Result<Bytes, OutOfMemory>
     ensures { IfOk result (λ text. text ≡ quoted_text (pattern_text (pattern_of pattern.now))) }
 {
-    let mut inside = Seq::new(alloc);
-    write_pattern(pattern, &mut inside)?;
+    let inside = print_pattern(alloc, pattern)?;
     quoted_text(alloc, inside.as_slice())
 }
 

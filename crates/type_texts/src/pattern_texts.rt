@@ -1,11 +1,12 @@
 //! Patterns as they are printed.
 
-ghost use Rattle.std.specs.Prelude.{◌≡◌, ◌++◌, OnOk, decimal, map};
+ghost use Rattle.std.specs.Prelude.{◌≡◌, ◌++◌, IfOk, OnOk, decimal, map};
 ghost use Rattle.value_types.specs.Folds.{op_of, item_of, link_of, pattern_of};
 ghost use Rattle.type_texts.specs.PatternTexts.{op_text, item_text, link_text, items_text, pattern_text};
 
 use itoa::Buffer;
-use value_lists::{Bytes, OutOfMemory};
+use std::alloc::Global;
+use value_lists::{Bytes, OutOfMemory, Seq};
 use value_types::{Op, PatItem, PatLink, Pattern};
 
 fn op_text(op: Op) -> &'static [u8]
@@ -74,9 +75,21 @@ fn write_items(items: &[PatItem], links: &[PatLink], text: &mut Bytes) -> Result
     write_items(items, links, text)
 }
 
-/// Writes a pattern behind a text (manual: "sequenceMatch", pattern syntax).
-pub fn write_pattern(pattern: &Pattern, text: &mut Bytes) -> Result<(), OutOfMemory>
+/// Writes a pattern behind a text.
+fn write_pattern(pattern: &Pattern, text: &mut Bytes) -> Result<(), OutOfMemory>
     ensures { OnOk result (text.new ≡ text.old ++ pattern_text (pattern_of pattern.now)) }
 {
     write_items(pattern.items.as_slice(), pattern.links.as_slice(), text)
+}
+
+/// The text of a pattern: a gap stands once, and none at either end (manual: "sequenceMatch", pattern syntax).
+///
+/// # Errors
+/// [`OutOfMemory`] where there is no room for it.
+pub fn print_pattern(alloc: Global, pattern: &Pattern) -> Result<Bytes, OutOfMemory>
+    ensures { IfOk result (λ text. text ≡ pattern_text (pattern_of pattern.now)) }
+{
+    let mut text = Seq::new(alloc);
+    write_pattern(pattern, &mut text)?;
+    Ok(text)
 }

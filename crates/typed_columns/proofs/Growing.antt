@@ -85,7 +85,7 @@ is_cell test (family.Cell t) h = refl
 is_cell test v h = h
 
 -- a value of a number type, as the test of its bounds
-in_bounds : (k : NumberType) (v : family.Value) → fits_value (ty_of (number_ty k)) v ≡ has_number (within (least k) (greatest k)) v
+pub in_bounds : (k : NumberType) (v : family.Value) → fits_value (ty_of (number_ty k)) v ≡ has_number (within (least k) (greatest k)) v
 in_bounds number.U8 v = ap (λ t. fits_value t v) ty_of-U8
 in_bounds number.U16 v = ap (λ t. fits_value t v) ty_of-U16
 in_bounds number.U32 v = ap (λ t. fits_value t v) ty_of-U32

@@ -52,4 +52,11 @@ masked_push (m ∷ ms) [] v h = absurd (omega arith)
 masked_push (true ∷ ms) (w ∷ vs) v h = ap (λ r. Nil ∷ r) (masked_push ms vs v (omega arith))
 masked_push (false ∷ ms) (w ∷ vs) v h = ap (λ r. w ∷ r) (masked_push ms vs v (omega arith))
 
+pub masked_append : (ms ns : List Bool) (vs ws : List Value) → length ms ≡ length vs → masked (ms ++ ns) (vs ++ ws) ≡ masked ms vs ++ masked ns ws
+masked_append [] ns [] ws h = refl
+masked_append [] ns (v ∷ vs) ws h = absurd (omega arith)
+masked_append (m ∷ ms) ns [] ws h = absurd (omega arith)
+masked_append (true ∷ ms) ns (v ∷ vs) ws h = ap (λ r. Nil ∷ r) (masked_append ms ns vs ws (omega arith))
+masked_append (false ∷ ms) ns (v ∷ vs) ws h = ap (λ r. v ∷ r) (masked_append ms ns vs ws (omega arith))
+
 pub ruleset mask_laws = (length-masked, masked_nil, masked_value, masked_take)

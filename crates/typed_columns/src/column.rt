@@ -13,16 +13,19 @@ use std::marker::Model;
 use value_types::{Boxed, Chain, Seq, Tree, Ty};
 
 /// Values of one type, seen as that type with the list of them.
+///
+/// The store stands open to crates that fill it field by field. What they leave in it is proved to be well
+/// formed (`specs/Views.antt`), as here.
 #[cycle(column)]
 #[derive(Drop)]
 pub struct Column {
-    pub(crate) kind: Kind,
+    pub kind: Kind,
 }
 
 /// What a column of each kind of type keeps.
 #[cycle(column)]
 #[derive(Drop)]
-pub(crate) enum Kind {
+pub enum Kind {
     Numbers(Numbers),
     Texts(Texts),
     /// Which values are NULL, and the values; where one is NULL, a blank stands in its place (manual:
@@ -77,9 +80,20 @@ impl Column {
 
     /// Lends the value at a place, as it stands there.
     #[inline]
+    pub fn item(&self, place: usize) -> Item<'_>
+        requires { place < length self.now.values }
+        ensures { slice_get self.now.values place ≡ Some (item_value result) }
+    {
+        // a number is lent in place: the walk below calls itself, so it is no part of its callers
+        if let Kind::Numbers(numbers) = &self.kind {
+            return Item::Num(numbers.at(place));
+        }
+        self.item_of_any(place)
+    }
+
     #[cycle(item)]
     #[tactic(auto, using(column_parts::proofs::Cuts::cut_laws, crate::proofs::Masks::mask_laws, crate::proofs::Entries::entry_laws))]
-    pub fn item(&self, place: usize) -> Item<'_>
+    fn item_of_any(&self, place: usize) -> Item<'_>
         requires { place < length self.now.values }
         ensures { slice_get self.now.values place ≡ Some (item_value result) }
     {
@@ -90,7 +104,7 @@ impl Column {
                 if mask[place] {
                     return Item::Nil;
                 }
-                return values.item(place);
+                return values.item_of_any(place);
             }
             Kind::Lists(starts, elements) => {
                 let (from, to) = part(starts, elements.len(), place);

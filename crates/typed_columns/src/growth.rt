@@ -183,7 +183,11 @@ fn push_entry(
     Ok(())
 }
 
-fn push_tree(trees: &mut Vec<Tree>, alloc: Global, tree: &Tree) -> Result<(), OutOfMemory>
+pub(crate) fn push_tree(
+    trees: &mut Vec<Tree>,
+    alloc: Global,
+    tree: &Tree,
+) -> Result<(), OutOfMemory>
     ensures ok { OnOk result (trees.new.items ≡ trees.old.items ++ tree.now ∷ []) }
     ensures err { OnErr result (trees.new.items ≡ trees.old.items) }
 {

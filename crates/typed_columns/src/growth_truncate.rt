@@ -1,4 +1,5 @@
-//! Columns with fewer values. Nothing here takes memory, so what was added can always be taken back.
+//! Columns with fewer values, or less room. Nothing here takes memory, so what was added can always be
+//! taken back.
 ghost use Rattle.std.specs.Prelude.{◌≡◌, ◌<◌, ◌≤◌, length, take};
 ghost use Rattle.std.specs.List.{zip};
 ghost use Rattle.column_parts.specs.Cuts.{cuts, IsCut};
@@ -39,6 +40,44 @@ impl Column {
             }
             Kind::Cells(_, _, trees) => {
                 trees.truncate(count);
+                return;
+            }
+        }
+    }
+}
+
+impl Column {
+    /// Gives back the room that no value stands in.
+    pub fn shrink_to_fit(&mut self)
+        ensures { self.new ≡ self.old }
+    {
+        match &mut self.kind {
+            Kind::Numbers(numbers) => {
+                numbers.shrink_to_fit();
+                return;
+            }
+            Kind::Texts(texts) => {
+                texts.shrink_to_fit();
+                return;
+            }
+            Kind::Nullable(mask, values) => {
+                mask.shrink_to_fit();
+                values.shrink_to_fit();
+                return;
+            }
+            Kind::Lists(starts, elements) => {
+                starts.shrink_to_fit();
+                elements.shrink_to_fit();
+                return;
+            }
+            Kind::Maps(starts, keys, values) => {
+                starts.shrink_to_fit();
+                keys.shrink_to_fit();
+                values.shrink_to_fit();
+                return;
+            }
+            Kind::Cells(_, _, trees) => {
+                trees.shrink_to_fit();
                 return;
             }
         }

@@ -8,6 +8,7 @@
 // what a column keeps and lends
 mod column;
 mod growth;
+mod growth_append;
 mod growth_blank;
 mod growth_direct;
 mod growth_new;
@@ -21,7 +22,7 @@ mod args;
 mod own;
 
 pub use args::Args;
-pub use column::Column;
+pub use column::{Column, Kind};
 pub use item::{Item, PairSpan, Span};
 
 #[cfg(test)]

@@ -1,4 +1,4 @@
-use Rattle.std.proofs.Common.{◌≡◌, length, ◌+◌, ◌++◌, [], ◌∷◌, arith, length-append, ap, sym, ◌∙◌}
+use Rattle.std.proofs.Common.{length, arith, length-append}
 use Rattle.column_parts.proofs.Cuts.{cut_push, cuts_push}
 use Rattle.column_parts.proofs.texts.push_text.Goals as goal
 

@@ -1,4 +1,3 @@
-use Rattle.std.proofs.Common.{◌≡◌, length, ◌+◌, ◌++◌, [], ◌∷◌, arith, ap, sym, ◌∙◌, refl, get_or}
 use Rattle.column_parts.proofs.Cuts.{cut_back, cut_take, cuts_take}
 use Rattle.column_parts.proofs.texts.truncate_texts.Goals as goal
 

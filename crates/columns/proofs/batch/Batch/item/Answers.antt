@@ -17,7 +17,7 @@ item-requires c =
     let cs = c.self.inside.columns.items in
     let within : c.args.place < c.self.inside.count = subst (λ n. c.args.place < n) (count_rows cs c.self.inside.count) (subst (λ v. c.args.place < length v.rows) (sym c.self.view_is) c.requires.row) in
     let row = ap (λ v. length (get_or v.rows c.args.place [])) (sym c.self.view_is) ∙ ap length (row_is cs c.self.inside.count c.args.place within) in
-    omega (arith, within, long_at cs c.self.inside.count c.args.column c.index.result.now c.self.invariant (omega (arith, c.requires.column, row, length-map cs (λ d. get_or d.values c.args.place Nil))) c.index.ensures)
+    omega (arith, within, long_at cs c.self.inside.count c.args.column c.index.result.now c.self.invariant.0 (omega (arith, c.requires.column, row, length-map cs (λ d. get_or d.values c.args.place Nil))) c.index.ensures)
 
 pub returns : goal.returns
 returns c =

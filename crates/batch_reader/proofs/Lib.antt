@@ -1,0 +1,3 @@
+mod Quick
+mod Pushed
+mod Blocks

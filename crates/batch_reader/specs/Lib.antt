@@ -1,0 +1,3 @@
+pub mod Faults
+pub mod Pushing
+pub mod Reading

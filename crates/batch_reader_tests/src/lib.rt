@@ -1,0 +1,9 @@
+//! What the reader of lines and the reader of rows answer, on small inputs and with sources that fail.
+#![tactic(auto)]
+
+#[cfg(test)]
+mod lines;
+#[cfg(test)]
+mod rows;
+#[cfg(test)]
+mod tables;

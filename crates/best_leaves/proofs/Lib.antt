@@ -1,0 +1,5 @@
+pub mod Making
+pub mod Bests
+pub mod Serving
+pub mod States
+pub mod Trees

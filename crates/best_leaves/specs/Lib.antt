@@ -1,0 +1,5 @@
+pub mod Best
+pub mod Made
+pub mod Rows
+pub mod Served
+pub mod States

@@ -1,0 +1,62 @@
+-- What is answered of an input, by one line and by a block of lines.
+use Rattle.std.specs.Prelude.{◌≡◌, ℕ, ◌+◌, ◌≤◌, ◌<◌, true, List, [], ◌++◌, Option, Some, None, Result, Ok, Err, length}
+use Rattle.std.specs.Io.KnownBytes.{Consumes}
+use Rattle.agg_ports.specs.Causes.{Rose}
+use Rattle.tsv_text.specs.Lines.{lines_of}
+use Rattle.line_reader.specs.declared.fault.LineFault.{LineFault}
+use Rattle.line_reader.specs.declared.fault.LineFault.TheVariants.{Read, TooLong, TooLarge, OutOfMemory}
+use Rattle.line_reader.specs.declared.stop.Stop.{Stop}
+use Rattle.line_reader.specs.declared.stop.Stop.TheVariants as stop
+use Rattle.line_reader.specs.Ahead.{Ahead, IsInput}
+use Rattle.line_reader.specs.Limits.{next_of, behind_next, IsTooLong, IsTooLarge, IsWithin, IsUnbroken, ends_line, AreShort}
+
+-- The first line of the input, or why there is none. A fault of reading comes only where no complete line is held.
+abbrev pub IsNext : Ahead → Ahead → List ℕ → List ℕ → Result (Option (List ℕ)) LineFault → Type 0
+IsNext before after input rest (Ok (Some line)) =
+    (0 < length input) × IsWithin before.most_line before.room input × (line ≡ next_of input) × (rest ≡ behind_next input)
+    × (after.most_line ≡ before.most_line) × (after.room + length input ≡ before.room + length rest)
+IsNext before after input rest (Ok None) = (input ≡ []) × (rest ≡ []) × (after ≡ before)
+IsNext before after input rest (Err TooLong) = IsTooLong before.most_line before.room input
+IsNext before after input rest (Err TooLarge) = IsTooLarge before.most_line before.room input
+IsNext before after input rest (Err Read) = IsUnbroken after.held
+IsNext before after input rest (Err OutOfMemory) = Unit {0}
+
+-- The next line of what a source and a reader have left, and what they have left behind it.
+pub record ReadsNext (left now : Option (List ℕ)) (before after : Ahead) (answer : Result (Option (List ℕ)) LineFault) : Type 0 where
+  pub input : List ℕ
+  pub rest : List ℕ
+  pub from : IsInput left before input
+  pub to : IsInput now after rest
+  pub next : IsNext before after input rest answer
+
+-- why a block ends, told of what follows it
+abbrev pub StopsAt : Ahead → List ℕ → List ℕ → Stop → Type 0
+StopsAt after block rest stop.More = 0 < length block
+StopsAt after block rest stop.End = rest ≡ []
+StopsAt after block rest stop.Read = IsUnbroken after.held
+StopsAt after block rest stop.TooLong = IsTooLong after.most_line after.room rest
+StopsAt after block rest stop.TooLarge = IsTooLarge after.most_line after.room rest
+
+-- a block is whole lines; at the end of the input the last may lack its newline
+abbrev pub IsWhole : List ℕ → Stop → Type 0
+IsWhole block stop.End = Unit {0}
+IsWhole block _ = ends_line block ≡ true
+
+-- A block at the front of what a source and a reader have left: whole lines that break no limit. The block and what is held behind it are
+-- what was held and what was taken.
+pub record ReadsBlock (left now : Option (List ℕ)) (before after : Ahead) (block : List ℕ) (stops : Stop) : Type 0 where
+  pub taken : List ℕ
+  pub moved : before.held ++ taken ≡ block ++ after.held
+  pub consumed : Consumes left now taken
+  pub rest : List ℕ
+  pub to : IsInput now after rest
+  pub whole : IsWhole block stops
+  pub short : AreShort before.most_line (lines_of block)
+  pub most_line : after.most_line ≡ before.most_line
+  pub room : after.room + length block ≡ before.room
+  pub stop : StopsAt after block rest stops
+
+-- The source's count of faults rose where the answer is a fault of reading, and is as before else.
+abbrev pub LineCause : {A : Type 0} → ℕ → ℕ → Result A LineFault → Type 0
+LineCause before now (Err Read) = (before ≤ now) × Rose before now
+LineCause before now _ = now ≡ before

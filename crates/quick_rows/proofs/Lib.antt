@@ -1,0 +1,4 @@
+pub mod FieldLaws
+pub mod ListLaws
+pub mod Numbers
+pub mod RowLaws

@@ -1,0 +1,34 @@
+//! The small pieces that every text is made of.
+ghost use Rattle.refusals.specs.Words.{at, with_number};
+ghost use Rattle.std.specs.Fmt.{decimal};
+ghost use Rattle.std.specs.Prelude.{◌≡◌, ◌++◌, OnOk};
+
+use itoa::Buffer;
+use value_lists::{Bytes, OutOfMemory};
+
+pub(crate) fn put_number(text: &mut Bytes, number: u64) -> Result<(), OutOfMemory>
+    ensures { OnOk result (text.new ≡ text.old ++ decimal number) }
+{
+    let mut buffer = Buffer::new();
+    text.extend_from_slice(buffer.format(number).as_bytes())
+}
+
+/// Words, and a number behind them.
+pub(crate) fn put_with_number(
+    text: &mut Bytes,
+    words: &[u8],
+    number: u64,
+) -> Result<(), OutOfMemory>
+    ensures { OnOk result (text.new ≡ text.old ++ with_number words.now number) }
+{
+    text.extend_from_slice(words)?;
+    put_number(text, number)
+}
+
+/// Words, and the place that they speak of.
+pub(crate) fn put_at(text: &mut Bytes, words: &[u8], place: u64) -> Result<(), OutOfMemory>
+    ensures { OnOk result (text.new ≡ text.old ++ at words.now place) }
+{
+    text.extend_from_slice(words)?;
+    put_with_number(text, b" at ", place)
+}

@@ -1,0 +1,14 @@
+mod Leading
+mod TypesIn
+mod LineKinds
+mod Found
+mod Only
+mod Judged
+mod Steps
+mod MarkFirst
+mod TypesSkipped
+mod ListsRead
+mod ColumnsRead
+mod CallsRead
+mod ScriptsRead
+mod LinesTold

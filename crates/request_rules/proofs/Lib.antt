@@ -1,0 +1,6 @@
+pub mod AllJudged
+mod Images
+mod InTurn
+mod KnownTypes
+mod Places
+mod Refused

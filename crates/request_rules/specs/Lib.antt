@@ -1,0 +1,5 @@
+pub mod Turns
+pub mod Tables
+pub mod Selects
+pub mod Views
+pub mod Answers

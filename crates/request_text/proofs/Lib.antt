@@ -1,0 +1,4 @@
+mod ShortLines
+mod LegalColumns
+mod OneAnswer
+mod Told

@@ -1,0 +1,12 @@
+//! The two lines of a query, read and judged.
+//!
+//! specs/Lines.antt says what a line comes to by its grammar and its rules, and specs/Queries.antt what two lines do.
+//! specs/Laws.antt says that they come to one thing alone.
+#![tactic(auto)]
+
+mod laws;
+mod lines;
+mod query;
+
+pub use laws::law_one_query;
+pub use query::{Query, read_query};

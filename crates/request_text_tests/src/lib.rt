@@ -1,0 +1,5 @@
+//! Tests of queries read from their two lines, over each rule in its place, with the texts of refusals.
+#![tactic(auto)]
+
+#[cfg(test)]
+mod tests;

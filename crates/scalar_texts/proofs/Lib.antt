@@ -1,0 +1,4 @@
+pub mod Digits
+pub mod HexTexts
+pub mod TypeKinds
+pub mod Bytes

@@ -1,0 +1,4 @@
+pub mod States
+pub mod Numbers
+pub mod Hex
+pub mod Answer

@@ -1,0 +1,5 @@
+pub mod Hashing
+pub mod Keys
+pub mod Serving
+pub mod SetLaws
+pub mod States

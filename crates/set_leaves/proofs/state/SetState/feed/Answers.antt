@@ -1,0 +1,8 @@
+use Rattle.std.proofs.lemmas.Result.{on_ok_weaker}
+use Rattle.set_leaves.specs.Sets.{held}
+use Rattle.set_leaves.proofs.States.{items_taken}
+use Rattle.set_leaves.proofs.state.SetState.feed.Goals as goal
+
+pub returns-clause-row : goal.returns-clause-row
+returns-clause-row c =
+    on_ok_weaker _ (items_taken (held c.args.self.now) (held c.feed_items.new.self) c.as_slice.result.now c.args.row.now c.as_slice.ensures) c.feed_items.ensures.row

@@ -1,0 +1,6 @@
+mod Patterns
+mod Levels
+mod Params
+mod Fitting
+mod Calls
+mod Types
