@@ -17,8 +17,3 @@ mod served;
 pub use funnel::FunnelState;
 pub use matching::MatchState;
 pub use served::{serves_funnel, serves_match};
-
-#[cfg(test)]
-mod match_tests;
-#[cfg(test)]
-mod tests;

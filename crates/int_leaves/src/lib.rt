@@ -20,6 +20,3 @@ mod value;
 
 pub use served::serves;
 pub use state::IntState;
-
-#[cfg(test)]
-mod tests;

@@ -12,8 +12,6 @@ mod error_lines;
 mod field_words;
 mod line_words;
 mod pieces;
-#[cfg(test)]
-mod tests;
 
 pub use error_lines::{put_error_line, put_field_count};
 pub use field_words::{put_field_why, put_state_why};

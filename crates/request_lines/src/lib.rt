@@ -21,7 +21,5 @@ mod types;
 // whole lines
 mod line;
 mod script;
-#[cfg(test)]
-mod tests;
 
 pub use line::{read_script_line, read_select, read_table};

@@ -5,8 +5,6 @@
 #![tactic(auto)]
 
 mod laws;
-#[cfg(test)]
-mod tests;
 mod types;
 
 pub use laws::{law_read_types_are_legal, law_short_texts_are_countable};

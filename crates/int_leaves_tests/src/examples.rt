@@ -5,7 +5,7 @@ ghost use Rattle.agg_meaning.specs.States.{made_for};
 ghost use Rattle.int_leaves.specs.Parts.{held};
 ghost use Rattle.int_leaves.specs.Served.{is_served};
 
-use crate::{IntState, serves};
+use int_leaves::{IntState, serves};
 use std::alloc::Global;
 use std::test::Fail;
 use typed_columns::{Args, Item};

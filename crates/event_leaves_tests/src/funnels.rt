@@ -5,7 +5,7 @@ ghost use Rattle.agg_meaning.specs.States.{made_for};
 ghost use Rattle.event_leaves.specs.Funnels.{held};
 ghost use Rattle.event_leaves.specs.Served.{is_funnel_served};
 
-use crate::{FunnelState, serves_funnel};
+use event_leaves::{FunnelState, serves_funnel};
 use std::alloc::Global;
 use std::test::Fail;
 use typed_columns::Item;

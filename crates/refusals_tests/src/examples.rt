@@ -1,5 +1,5 @@
-use crate::*;
 use chain_params::ChainFault;
+use refusals::*;
 use scalar_texts::{FieldFault, StateFault};
 use std::test::Fail;
 use tsv_text::TextFault;

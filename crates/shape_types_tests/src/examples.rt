@@ -2,8 +2,8 @@
 
 ghost use Rattle.std.specs.Prelude.{◌<◌, ◌^◌, length};
 
-use crate::{law_short_texts_are_countable, type_of};
 use chain_types::ChainFault;
+use shape_types::{law_short_texts_are_countable, type_of};
 use std::alloc::Global;
 use std::process::Abort;
 use type_shapes::read_type_shape;

@@ -5,7 +5,7 @@ ghost use Rattle.agg_meaning.specs.States.{made_for};
 ghost use Rattle.event_leaves.specs.Matches.{held};
 ghost use Rattle.event_leaves.specs.Served.{is_match_served};
 
-use crate::{MatchState, serves_match};
+use event_leaves::{MatchState, serves_match};
 use std::alloc::Global;
 use std::test::Fail;
 use typed_columns::Item;

@@ -1,7 +1,7 @@
 //! Lines that are read, and lines with a fault.
 
-use crate::{read_script_line, read_select, read_table};
 use line_forms::{LineFault, WrittenCall, WrittenLine, WrittenName};
+use request_lines::{read_script_line, read_select, read_table};
 use std::alloc::Global;
 use std::process::Abort;
 use std::test::Fail;

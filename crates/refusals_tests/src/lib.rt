@@ -1,0 +1,5 @@
+//! The texts of refusals.
+#![tactic(auto)]
+
+#[cfg(test)]
+mod examples;
