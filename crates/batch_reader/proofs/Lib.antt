@@ -1,3 +1,4 @@
 mod Quick
 mod Pushed
+mod Pieces
 mod Blocks

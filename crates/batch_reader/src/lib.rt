@@ -3,10 +3,12 @@
 #![tactic(auto)]
 
 mod fault;
+mod parallel;
+mod pieces;
 mod pushing;
 mod reading;
 mod schema_types;
 
 pub use fault::RowFault;
 pub use line_reader::{LineFault, LineReader};
-pub use reading::read_rows;
+pub use reading::{read_rows, read_rows_in_pieces};

@@ -7,31 +7,43 @@ ghost use Rattle.batch_reader.specs.Reading.{ReadsRows, RowCause, types_of};
 
 use crate::RowFault;
 use crate::fault::fault_of;
+use crate::parallel::{next_number, push_pieces};
+use crate::pieces::cut;
 use crate::pushing::push_lines;
 use crate::schema_types::types_of;
 use agg_defs::Schema;
 use agg_ports::Source;
 use columns::Batch;
 use line_reader::{Block, LineReader, Lookahead, Stop};
+use rayon::current_num_threads;
 use std::alloc::Global;
 use std::thread::Threads;
 use tsv_values::StateReader;
-use value_types::{OutOfMemory, Ty};
+use value_types::Ty;
 
-// The number of the next row.
-fn next_number(batch: &Batch) -> Result<u64, OutOfMemory>
-    ensures { IfOk result (λ number. number ≡ length batch.now.rows + 1) }
-{
-    let count = batch.len();
-    if count == usize::MAX {
-        return Err(OutOfMemory);
-    }
-    Ok(count as u64 + 1)
+// How many bytes are worth a thread of their own.
+const LEAST_PIECE: usize = 65_536;
+
+/// How a block is cut: into at most so many pieces of about one length, each of at least so many bytes.
+#[derive(Clone, Copy, Debug)]
+struct Cutting {
+    most_pieces: usize,
+    least_piece: usize,
 }
 
-// Adds the rows of a block to those of the batch, and tells the number of the row that comes next.
+impl Cutting {
+    // How many bytes a piece of a block of this length has at least.
+    fn piece_len(&self, len: usize) -> usize {
+        if self.most_pieces == 0 {
+            return len;
+        }
+        (len / self.most_pieces).max(self.least_piece)
+    }
+}
+
+// Adds the rows of a block to those of the batch, line by line, and tells the number of the row that comes next.
 #[tactic(auto, using(crate::proofs::Blocks::block_laws))]
-fn push_block<R: StateReader>(
+fn push_whole<R: StateReader>(
     alloc: Global,
     reader: &R,
     types: &[Ty],
@@ -53,14 +65,41 @@ fn push_block<R: StateReader>(
     }
 }
 
+// The same, with its pieces read side by side where it is long enough.
+fn push_block<H: Threads + Sync, R: StateReader + Sync>(
+    rt: &H,
+    alloc: Global,
+    reader: &R,
+    types: &[Ty],
+    cutting: Cutting,
+    text: &[u8],
+    batch: &mut Batch,
+) -> Result<u64, RowFault>
+    requires few { length types.now < 2 ^ 32 }
+    requires readable { AreReadable (R.takes reader.now) types.now }
+    requires types { batch.old.types ≡ types.now }
+    ensures { PushesBlock (R.reads reader.now) batch.old (lines_of text.now) batch.new result }
+{
+    let least = cutting.piece_len(text.len());
+    if text.len() <= least {
+        return push_whole(alloc, reader, types, text, batch);
+    }
+    match cut(alloc, text, least) {
+        Ok(pieces) => push_pieces(rt, alloc, reader, types, &pieces, batch),
+        Err(_) => Err(RowFault::OutOfMemory),
+    }
+}
+
 // The rows of all that a source has left behind what is held.
 #[tactic(auto, using(crate::proofs::Blocks::read_laws))]
-fn read_all<S: Source, R: StateReader>(
+fn read_all<H: Threads + Sync, S: Source, R: StateReader + Sync>(
+    rt: &H,
     alloc: Global,
     source: &mut S,
     ahead: &mut Lookahead,
     types: &[Ty],
     reader: &R,
+    cutting: Cutting,
 ) -> Result<Batch, RowFault>
     requires few { length types.now < 2 ^ 32 }
     requires readable { AreReadable (R.takes reader.now) types.now }
@@ -77,7 +116,7 @@ fn read_all<S: Source, R: StateReader>(
             Ok(stop) => stop,
             Err(_) => return Err(RowFault::OutOfMemory),
         };
-        let next = match push_block(alloc, reader, types, block.as_slice(), &mut batch) {
+        let next = match push_block(rt, alloc, reader, types, cutting, block.as_slice(), &mut batch) {
             Ok(next) => next,
             Err(fault) => return Err(fault),
         };
@@ -93,8 +132,32 @@ fn read_all<S: Source, R: StateReader>(
     Err(RowFault::OutOfMemory)
 }
 
+// The rows of all that a reader of lines and its source have left.
+#[tactic(auto, using(crate::proofs::Blocks::read_laws))]
+fn read_cut<H: Threads + Sync, S: Source, R: StateReader + Sync>(
+    rt: &H,
+    alloc: Global,
+    lines: LineReader<'_, S>,
+    schema: &Schema,
+    reader: &R,
+    cutting: Cutting,
+) -> Result<Batch, RowFault>
+    requires few { length schema.now.columns < 2 ^ 32 }
+    requires readable { AreReadable (R.takes reader.now) (types_of schema.now) }
+    ensures rows { ReadsRows (R.reads reader.now) (types_of schema.now) (S.left lines.entry.source.now) (S.left lines.exit.0.now) lines.entry.ahead result }
+    ensures cause { RowCause (S.faults lines.entry.source.now) (S.faults lines.exit.0.now) result }
+{
+    let LineReader { source, ahead } = lines;
+    let mut ahead = ahead;
+    match types_of(alloc, schema) {
+        Ok(types) => read_all(rt, alloc, source, &mut ahead, &types, reader, cutting),
+        Err(_) => Err(RowFault::OutOfMemory),
+    }
+}
+
 /// The rows of all that a reader of lines and its source have left, in the types of the table's columns. Regular lines go straight into the
-/// columns of the batch; every other line, and every refusal, is the slow judge's (manual: "TabSeparated").
+/// columns of the batch; every other line, and every refusal, is the slow judge's (manual: "TabSeparated"). Long blocks of lines are read by
+/// as many threads as there are processors.
 ///
 /// # Errors
 ///
@@ -104,9 +167,8 @@ fn read_all<S: Source, R: StateReader>(
 /// - [`RowFault::TooLong`], [`RowFault::TooLarge`]: a limit of the reader is broken, this project's own choice.
 /// - [`RowFault::Read`]: the source failed.
 /// - [`RowFault::OutOfMemory`]: there is no room for the rows.
-#[tactic(auto, using(crate::proofs::Blocks::read_laws))]
 pub fn read_rows<H: Threads + Sync, S: Source, R: StateReader + Sync>(
-    _rt: &H,
+    rt: &H,
     alloc: Global,
     lines: LineReader<'_, S>,
     schema: &Schema,
@@ -117,10 +179,35 @@ pub fn read_rows<H: Threads + Sync, S: Source, R: StateReader + Sync>(
     ensures rows { ReadsRows (R.reads reader.now) (types_of schema.now) (S.left lines.entry.source.now) (S.left lines.exit.0.now) lines.entry.ahead result }
     ensures cause { RowCause (S.faults lines.entry.source.now) (S.faults lines.exit.0.now) result }
 {
-    let LineReader { source, ahead } = lines;
-    let mut ahead = ahead;
-    match types_of(alloc, schema) {
-        Ok(types) => read_all(alloc, source, &mut ahead, &types, reader),
-        Err(_) => Err(RowFault::OutOfMemory),
-    }
+    let cutting = Cutting {
+        most_pieces: current_num_threads(rt),
+        least_piece: LEAST_PIECE,
+    };
+    read_cut(rt, alloc, lines, schema, reader, cutting)
+}
+
+/// As [`read_rows`], with each block of lines, however short, cut into at most so many pieces, which are read side by side; with 1 or 0 the
+/// caller's thread reads all.
+///
+/// # Errors
+///
+/// As of [`read_rows`].
+pub fn read_rows_in_pieces<H: Threads + Sync, S: Source, R: StateReader + Sync>(
+    rt: &H,
+    alloc: Global,
+    lines: LineReader<'_, S>,
+    schema: &Schema,
+    reader: &R,
+    most_pieces: usize,
+) -> Result<Batch, RowFault>
+    requires few { length schema.now.columns < 2 ^ 32 }
+    requires readable { AreReadable (R.takes reader.now) (types_of schema.now) }
+    ensures rows { ReadsRows (R.reads reader.now) (types_of schema.now) (S.left lines.entry.source.now) (S.left lines.exit.0.now) lines.entry.ahead result }
+    ensures cause { RowCause (S.faults lines.entry.source.now) (S.faults lines.exit.0.now) result }
+{
+    let cutting = Cutting {
+        most_pieces,
+        least_piece: 1,
+    };
+    read_cut(rt, alloc, lines, schema, reader, cutting)
 }

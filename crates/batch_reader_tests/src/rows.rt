@@ -11,13 +11,14 @@ const EVENTS: &[u8] = b"1\t10\t/home\t0\t['a','b']\t1\t0\t0
 ";
 
 // All at once, and no call fails.
-fn whole(text: &[u8]) -> Input<'_> {
+pub fn whole(text: &[u8]) -> Input<'_> {
     Input {
         text,
         most_line: 100,
         most_input: 1000,
         piece: 1000,
         fails: 0,
+        most_pieces: 0,
     }
 }
 

@@ -1,13 +1,16 @@
-//! How fast lines become rows of a batch, and rows become arguments: `bench_rows run`.
+//! How fast lines become rows of a batch, and rows become arguments: `bench_rows run`. How fast all rows of a source are read, each block cut
+//! into so many pieces: `bench_rows read PIECES`.
 //!
 //! The table is `day UInt16, user UInt64, page String, ms UInt32, tags Array(String), c1 UInt8, c2 UInt8, c3 UInt8`.
 #![tactic(auto)]
 
 mod draws;
+mod reading;
 
 use columns::{Args, Batch, Column, Item};
 use draws::text_of;
 use quick_rows::{Taken, take_row};
+use reading::measure_source;
 use std::alloc::Global;
 use std::time::Instant;
 use std::{env, io};
@@ -121,16 +124,30 @@ fn measure(rt: &HostRuntime, text: &[u8]) -> io::Result<()> {
     )
 }
 
+/// The number of pieces, where the words ask for a reading of a source.
+fn pieces_in(words: &[String]) -> Option<usize> {
+    if words.len() < 3 {
+        return None;
+    }
+    words[2].parse::<usize>().ok()
+}
+
 fn main(rt: HostRuntime) -> io::Result<()> {
-    let args = env::args(&rt)?;
-    if args.len() < 2 {
+    let words = env::args(&rt)?;
+    if words.len() < 2 {
         return Ok(());
     }
     let Ok(text) = text_of(rt.alloc(), ROWS) else {
         return Ok(());
     };
     for _ in 0..5u8 {
-        measure(&rt, &text)?;
+        match pieces_in(&words) {
+            None => measure(&rt, &text)?,
+            Some(pieces) => match text.as_slice().to_vec(rt.alloc()) {
+                Ok(bytes) => measure_source(&rt, bytes, pieces)?,
+                Err(_) => return Ok(()),
+            },
+        }
     }
     Ok(())
 }
