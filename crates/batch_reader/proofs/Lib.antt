@@ -1,4 +1,6 @@
 mod Quick
 mod Pushed
-mod Pieces
+mod Added
+mod Cut
+mod Sent
 mod Blocks

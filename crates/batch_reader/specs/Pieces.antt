@@ -14,7 +14,7 @@ use Rattle.batch_reader.specs.declared.fault.RowFault.TheVariants.{OutOfMemory}
 use Rattle.batch_reader.specs.declared.parallel.Piece.{Piece}
 
 -- the lines of the pieces, one piece behind the other
-pub lines_in : List (Bor (List ℕ)) → List (List ℕ)
+abbrev pub lines_in : List (Bor (List ℕ)) → List (List ℕ)
 lines_in [] = []
 lines_in (piece ∷ pieces) = lines_of piece.now ++ lines_in pieces
 

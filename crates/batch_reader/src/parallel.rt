@@ -58,8 +58,8 @@ fn read_pieces<H: Threads + Sync, R: StateReader + Sync>(
         .with_min_len(1)
         .map(
             |text: &&[u8]| -> Result<Piece, OutOfMemory>
-                requires few { length types.entry.now < 2 ^ 32 }
-                requires readable { AreReadable (R.takes reader.entry.now) types.entry.now }
+                requires few { length types.now < 2 ^ 32 }
+                requires readable { AreReadable (R.takes reader.now) types.now }
                 ensures { IsPiece (R.reads reader.entry.now) types.entry.now text.now.now result }
             { read_piece(alloc, reader, types, text) },
         )
@@ -78,14 +78,15 @@ pub(crate) fn next_number(batch: &Batch) -> Result<u64, OutOfMemory>
 }
 
 // Adds the rows of a piece to those of the pieces before it.
-#[tactic(auto, using(crate::proofs::Pieces::piece_laws))]
-fn add_piece(alloc: Global, piece: &Piece, batch: &mut Batch) -> Result<(), RowFault>
-    requires { batch.old.types ≡ piece.now.rows.types }
-    ensures { AddsPiece batch.old piece.now batch.new result }
+#[tactic(auto, using(crate::proofs::Added::piece_laws))]
+fn add_piece(alloc: Global, piece: Piece, batch: &mut Batch) -> Result<(), RowFault>
+    requires { batch.old.types ≡ piece.rows.types }
+    ensures { AddsPiece batch.old piece batch.new result }
 {
-    batch.append(alloc, &piece.rows)?;
+    let Piece { rows, pushed } = piece;
+    batch.append(alloc, &rows)?;
     let number = next_number(batch)?;
-    match piece.pushed {
+    match pushed {
         Ok(()) => Ok(()),
         Err(refusal) => Err(fault_of(number, refusal)),
     }
@@ -113,7 +114,7 @@ pub(crate) fn push_pieces<H: Threads + Sync, R: StateReader + Sync>(
         Ok(read) => read,
         Err(_) => return Err(RowFault::OutOfMemory),
     };
-    for piece in &read {
+    for piece in read {
         match piece {
             Ok(piece) => match add_piece(alloc, piece, batch) {
                 Ok(()) => {}

@@ -116,7 +116,15 @@ fn read_all<H: Threads + Sync, S: Source, R: StateReader + Sync>(
             Ok(stop) => stop,
             Err(_) => return Err(RowFault::OutOfMemory),
         };
-        let next = match push_block(rt, alloc, reader, types, cutting, block.as_slice(), &mut batch) {
+        let next = match push_block(
+            rt,
+            alloc,
+            reader,
+            types,
+            cutting,
+            block.as_slice(),
+            &mut batch,
+        ) {
             Ok(next) => next,
             Err(fault) => return Err(fault),
         };

@@ -36,9 +36,11 @@ fn events_are_rows(rt: HostRuntime) {
     }
 }
 
+// Every call fails in its turn: each that brings bytes, and the one that would tell the end.
 #[test]
-fn a_failing_read_is_told(rt: HostRuntime) {
-    for fails in [1, 2, 5] {
+fn a_failing_read_is_told_at_every_call(rt: HostRuntime) {
+    let calls = (EVENTS.len() / 30) as u64 + 2;
+    for fails in 1..calls + 1 {
         let input = Input {
             piece: 30,
             fails,
@@ -49,6 +51,12 @@ fn a_failing_read_is_told(rt: HostRuntime) {
             "at {fails}"
         );
     }
+    let late = Input {
+        piece: 30,
+        fails: calls + 1,
+        ..whole(EVENTS)
+    };
+    assert!(rt; read(&rt, rt.alloc(), 0, &late).is_ok());
 }
 
 #[test]
@@ -84,21 +92,27 @@ fn a_row_may_lack_a_field(rt: HostRuntime) {
     );
 }
 
+// A line of three bytes in an input of six: limits at these, one below and one above.
 #[test]
 fn limits_break_behind_the_rows(rt: HostRuntime) {
-    let long = Input {
-        most_line: 2,
-        ..whole(b"7\n255\n")
-    };
-    assert!(rt;
-        matches!(
-            read(&rt, rt.alloc(), 7, &long),
-            Err(RowFault::TooLong { row: 2 })
-        )
-    );
-    let large = Input {
-        most_input: 5,
-        ..whole(b"7\n255\n")
-    };
-    assert!(rt; matches!(read(&rt, rt.alloc(), 7, &large), Err(RowFault::TooLarge)));
+    for (most_line, most_input, want) in [
+        (3u64, 6u64, "rows"),
+        (4, 7, "rows"),
+        (2, 6, "too long"),
+        (3, 5, "too large"),
+        (2, 5, "too long"),
+    ] {
+        let input = Input {
+            most_line,
+            most_input,
+            ..whole(b"7\n255\n")
+        };
+        let told = match read(&rt, rt.alloc(), 7, &input) {
+            Ok(_) => "rows",
+            Err(RowFault::TooLong { row: 2 }) => "too long",
+            Err(RowFault::TooLarge) => "too large",
+            Err(_) => "another fault",
+        };
+        assert_eq!(rt; told, want, "{most_line} {most_input}");
+    }
 }
