@@ -5,6 +5,7 @@ use batch_reader::RowFault;
 use columns::Batch;
 use itoa::Buffer;
 use std::alloc::Global;
+use std::thread::Threads;
 use value_types::OutOfMemory;
 
 const PIECES: [usize; 5] = [0, 1, 2, 8, 300];
@@ -35,14 +36,20 @@ fn is_counted(batch: &Batch, lines: usize) -> bool {
             .all(|(place, number)| place % 256 == *number as usize)
 }
 
-fn is_read(rt: &HostRuntime, text: &[u8], lines: usize, most_pieces: usize) -> bool {
+fn is_read(
+    rt: &(impl Threads + Sync),
+    alloc: Global,
+    text: &[u8],
+    lines: usize,
+    most_pieces: usize,
+) -> bool {
     let input = Input {
         most_input: 1_000_000,
         piece: 100_000,
         most_pieces,
         ..whole(text)
     };
-    match read(rt, rt.alloc(), 7, &input) {
+    match read(rt, alloc, 7, &input) {
         Ok(batch) => is_counted(&batch, lines),
         Err(_) => false,
     }
@@ -55,7 +62,10 @@ fn rows_are_the_same_in_any_number_of_pieces(rt: HostRuntime) {
             return assert!(rt; false);
         };
         for most_pieces in PIECES {
-            assert!(rt; is_read(&rt, &text, lines as usize, most_pieces), "{lines} {most_pieces}");
+            assert!(rt;
+                is_read(&rt, rt.alloc(), &text, lines as usize, most_pieces),
+                "{lines} {most_pieces}"
+            );
         }
     }
 }
@@ -67,7 +77,10 @@ fn blocks_follow_one_another(rt: HostRuntime) {
         return assert!(rt; false);
     };
     for most_pieces in [0, 1, 8] {
-        assert!(rt; is_read(&rt, &text, 200_000, most_pieces), "{most_pieces}");
+        assert!(rt;
+            is_read(&rt, rt.alloc(), &text, 200_000, most_pieces),
+            "{most_pieces}"
+        );
     }
 }
 

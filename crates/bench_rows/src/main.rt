@@ -10,7 +10,7 @@ mod reading;
 use columns::{Args, Batch, Column, Item};
 use draws::text_of;
 use quick_rows::{Taken, take_row};
-use reading::measure_source;
+use reading::rows_in;
 use std::alloc::Global;
 use std::time::Instant;
 use std::{env, io};
@@ -141,13 +141,17 @@ fn main(rt: HostRuntime) -> io::Result<()> {
         return Ok(());
     };
     for _ in 0..5u8 {
-        match pieces_in(&words) {
-            None => measure(&rt, &text)?,
-            Some(pieces) => match text.as_slice().to_vec(rt.alloc()) {
-                Ok(bytes) => measure_source(&rt, bytes, pieces)?,
-                Err(_) => return Ok(()),
-            },
-        }
+        let Some(pieces) = pieces_in(&words) else {
+            measure(&rt, &text)?;
+            continue;
+        };
+        let Ok(bytes) = text.as_slice().to_vec(rt.alloc()) else {
+            return Ok(());
+        };
+        let start = Instant::now(&rt)?;
+        let rows = rows_in(&rt, rt.alloc(), bytes, pieces);
+        let reading = start.elapsed(&rt)?.as_micros();
+        println!(&rt; "{rows} rows of a source in {reading} us")?;
     }
     Ok(())
 }

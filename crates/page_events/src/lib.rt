@@ -1,8 +1,8 @@
 //! A table of page events, as tests and benches read it.
 #![tactic(auto)]
 
+mod events;
 mod states;
-mod table;
 
+pub use events::table;
 pub use states::NoStates;
-pub use table::table;

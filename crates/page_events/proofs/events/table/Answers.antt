@@ -1,6 +1,6 @@
 use Rattle.std.proofs.Common.{arith}
 use Rattle.page_events.proofs.Readable.{longer, one-more}
-use Rattle.page_events.proofs.table.table.Goals as goal
+use Rattle.page_events.proofs.events.table.Goals as goal
 
 pub loop-place-preserved : goal.loop-place-preserved
 loop-place-preserved c =
