@@ -124,24 +124,20 @@ fn measure(rt: &HostRuntime, text: &[u8]) -> io::Result<()> {
     )
 }
 
-/// The number of pieces, where the words ask for a reading of a source.
-fn pieces_in(words: &[String]) -> Option<usize> {
-    if words.len() < 3 {
-        return None;
-    }
-    words[2].parse::<usize>().ok()
-}
-
 fn main(rt: HostRuntime) -> io::Result<()> {
-    let words = env::args(&rt)?;
-    if words.len() < 2 {
+    let mut words = env::args(&rt)?.skip(1);
+    let Some(_) = words.next() else {
         return Ok(());
-    }
+    };
+    let asked = match words.next() {
+        Some(word) => word.parse::<usize>().ok(),
+        None => None,
+    };
     let Ok(text) = text_of(rt.alloc(), ROWS) else {
         return Ok(());
     };
     for _ in 0..5u8 {
-        let Some(pieces) = pieces_in(&words) else {
+        let Some(pieces) = asked else {
             measure(&rt, &text)?;
             continue;
         };

@@ -6,12 +6,7 @@ use std::alloc::Global;
 use std::thread::Threads;
 
 /// How many rows are read, or 0 where they are refused.
-pub fn rows_in(
-    rt: &(impl Threads + Sync),
-    alloc: Global,
-    bytes: Vec<u8>,
-    pieces: usize,
-) -> usize {
+pub fn rows_in(rt: &(impl Threads + Sync), alloc: Global, bytes: Vec<u8>, pieces: usize) -> usize {
     let Ok(schema) = table(alloc, 0) else {
         return 0;
     };
