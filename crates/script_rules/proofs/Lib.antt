@@ -1,0 +1,4 @@
+mod Images
+mod Rules
+mod Found
+mod Numbered

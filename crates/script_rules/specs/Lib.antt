@@ -1,0 +1,4 @@
+pub mod Views
+pub mod Sessions
+pub mod Folds
+pub mod Laws
