@@ -28,7 +28,12 @@ pub(crate) fn whole_len(text: &[u8]) -> usize
 
 /// How many newlines a text has.
 pub(crate) fn count_newlines(text: &[u8]) -> usize {
-    text.iter().filter(|byte| **byte == b'\n').count()
+    // with no branch in the loop, many bytes are counted at a time
+    let mut count = 0usize;
+    for byte in text {
+        count = count.wrapping_add(usize::from(*byte == b'\n'));
+    }
+    count
 }
 
 /// The limit that the line at the front of a text breaks. It has no newline within the bytes that the input may have, and at most one byte
