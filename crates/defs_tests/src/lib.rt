@@ -1,5 +1,5 @@
 //! What no contract says of legal chains, calls, plans, schemas and views: that with memory at hand they are made and
-//! copied, and that a copy is written as its source.
+//! copied.
 #![tactic(auto)]
 
 #[cfg(test)]
