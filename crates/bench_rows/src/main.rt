@@ -4,6 +4,8 @@
 //! The table is `day UInt16, user UInt64, page String, ms UInt32, tags Array(String), c1 UInt8, c2 UInt8, c3 UInt8`.
 #![tactic(auto)]
 
+ghost use Rattle.std.specs.Prelude.{◌≡◌, ◌+◌, ◌<◌, length};
+
 mod draws;
 mod reading;
 
@@ -75,14 +77,27 @@ fn feed_rows(batch: &Batch) -> i128 {
     feed_columns(batch.column(0), batch.column(3))
 }
 
+/// Lends the value at a place to the arguments. A number goes by itself: copied within an item, it would wait for its own bytes.
+#[inline]
+fn lend<'a>(args: &mut Args<'a>, column: &'a Column, place: usize)
+    requires value { place < length column.now.values }
+    requires room { length args.old < 64 }
+    ensures { length args.new ≡ length args.old + 1 }
+{
+    match column.item(place) {
+        Item::Num(number) => args.push(Item::Num(number)),
+        other => args.push(other),
+    }
+}
+
 #[inline(never)]
 fn feed_columns<'a>(first: &'a Column, second: &'a Column) -> i128 {
     let mut sum = 0i128;
     let mut args: Args<'a> = Args::new();
     for place in 0..first.len().min(second.len()) {
         args.clear();
-        args.push(first.item(place));
-        args.push(second.item(place));
+        lend(&mut args, first, place);
+        lend(&mut args, second, place);
         sum = sum.wrapping_add(feed(&args));
     }
     sum
