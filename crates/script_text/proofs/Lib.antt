@@ -1,0 +1,9 @@
+mod Cuts
+mod Placed
+mod Places
+mod ShortLines
+mod LegalColumns
+mod LegalTables
+mod Stepped
+mod Read
+mod OneScript
