@@ -46,7 +46,9 @@ fn rows_are_told_by_their_places(rt: HostRuntime) -> Result<(), Fail> {
     assert_eq!(rt; script.views.schema.columns.len(), 2);
     assert_eq!(rt; script.views.list.len(), 1);
     assert_eq!(rt; script.sessions.len(), 1);
-    assert!(rt; statements(&script, 0) == [Statement::Insert(lines), Statement::Read { view: 0 }].as_slice());
+    assert!(rt;
+        statements(&script, 0) == [Statement::Insert(lines), Statement::Read { view: 0 }].as_slice()
+    );
     Ok(())
 }
 
@@ -85,7 +87,10 @@ fn every_statement_is_read(rt: HostRuntime) -> Result<(), Fail> {
         to: 176,
         count: 1,
     };
-    assert!(rt; statements(&script, 1) == [Statement::States { view: 0 }, Statement::Insert(last)].as_slice());
+    assert!(rt;
+        statements(&script, 1)
+            == [Statement::States { view: 0 }, Statement::Insert(last)].as_slice()
+    );
     Ok(())
 }
 
@@ -99,14 +104,35 @@ fn line_1_is_a_table(rt: HostRuntime) {
 
 #[test]
 fn lines_of_spaces_are_skipped(rt: HostRuntime) {
-    assert!(rt; is_read(&rt, b"TABLE x UInt8\n\n   \nVIEW v SELECT count()\n \nSESSION 1\n\n", 1, 1));
-    assert!(rt; is_refused(&rt, b"TABLE x UInt8\n\n   \nVIEW v SELECT\n", 4, Why::Syntax(13)));
+    assert!(rt;
+        is_read(
+            &rt,
+            b"TABLE x UInt8\n\n   \nVIEW v SELECT count()\n \nSESSION 1\n\n",
+            1,
+            1
+        )
+    );
+    assert!(rt;
+        is_refused(
+            &rt,
+            b"TABLE x UInt8\n\n   \nVIEW v SELECT\n",
+            4,
+            Why::Syntax(13)
+        )
+    );
     assert!(rt; is_refused(&rt, b"TABLE x UInt8\n\t\n", 2, Why::Syntax(0)));
 }
 
 #[test]
 fn lines_stand_in_their_places(rt: HostRuntime) {
-    assert!(rt; is_refused(&rt, b"TABLE x UInt8\nSESSION 1\n VIEW v SELECT count()", 3, Why::Syntax(1)));
+    assert!(rt;
+        is_refused(
+            &rt,
+            b"TABLE x UInt8\nSESSION 1\n VIEW v SELECT count()",
+            3,
+            Why::Syntax(1)
+        )
+    );
     assert!(rt; is_refused(&rt, b"TABLE x UInt8\nINSERT 1\n1\n", 2, Why::Syntax(0)));
     assert!(rt; is_refused(&rt, b"TABLE x UInt8\nREAD", 2, Why::Syntax(0)));
     assert!(rt; is_refused(&rt, b"TABLE x UInt8\nSESSION 1\nREAD", 3, Why::Syntax(4)));
@@ -115,7 +141,14 @@ fn lines_stand_in_their_places(rt: HostRuntime) {
 #[test]
 fn sessions_stand_in_order(rt: HostRuntime) {
     assert!(rt; is_refused(&rt, b"TABLE x UInt8\nSESSION 2", 2, Why::SessionOrder(8)));
-    assert!(rt; is_refused(&rt, b"TABLE x UInt8\nSESSION 1\nSESSION 1", 3, Why::SessionOrder(8)));
+    assert!(rt;
+        is_refused(
+            &rt,
+            b"TABLE x UInt8\nSESSION 1\nSESSION 1",
+            3,
+            Why::SessionOrder(8)
+        )
+    );
     assert!(rt; is_refused(&rt, b"TABLE x UInt8\nSESSION -1", 2, Why::SessionOrder(8)));
     assert!(rt; is_read(&rt, b"TABLE x UInt8\nSESSION 1\nSESSION 2", 0, 2));
 }
@@ -127,25 +160,88 @@ fn views_break_rules_at_their_lines(rt: HostRuntime) {
         fault: ChainFault::UnknownName,
     };
     assert!(rt; is_refused(&rt, b"TABLE x UInt8\nVIEW v SELECT sums(x)", 2, unknown));
-    assert!(rt; is_refused(&rt, b"TABLE x UInt8\nVIEW v SELECT sum(y)", 2, Why::UnknownColumn(18)));
-    assert!(rt; is_refused(&rt, b"TABLE x UInt8\nVIEW v SELECT count()\n\nVIEW v SELECT count()", 4, Why::Repeated(5)));
+    assert!(rt;
+        is_refused(
+            &rt,
+            b"TABLE x UInt8\nVIEW v SELECT sum(y)",
+            2,
+            Why::UnknownColumn(18)
+        )
+    );
+    assert!(rt;
+        is_refused(
+            &rt,
+            b"TABLE x UInt8\nVIEW v SELECT count()\n\nVIEW v SELECT count()",
+            4,
+            Why::Repeated(5)
+        )
+    );
 }
 
 #[test]
 fn as_many_lines_follow(rt: HostRuntime) {
     let large = b"TABLE x UInt8\nSESSION 1\nINSERT 170141183460469231731687303715884105727\n1\n";
     assert!(rt; is_refused(&rt, large, 3, Why::Lines));
-    assert!(rt; is_refused(&rt, b"TABLE x UInt8\nSESSION 1\nINSERT 2\n1\n", 3, Why::Lines));
-    assert!(rt; is_refused(&rt, b"TABLE x UInt8\nSESSION 1\nINSERT -1\n1\n", 3, Why::Syntax(7)));
-    assert!(rt; is_refused(&rt, b"TABLE x UInt8\nSESSION 1\nLOAD v 5", 3, Why::UnknownView(5)));
+    assert!(rt;
+        is_refused(
+            &rt,
+            b"TABLE x UInt8\nSESSION 1\nINSERT 2\n1\n",
+            3,
+            Why::Lines
+        )
+    );
+    assert!(rt;
+        is_refused(
+            &rt,
+            b"TABLE x UInt8\nSESSION 1\nINSERT -1\n1\n",
+            3,
+            Why::Syntax(7)
+        )
+    );
+    assert!(rt;
+        is_refused(
+            &rt,
+            b"TABLE x UInt8\nSESSION 1\nLOAD v 5",
+            3,
+            Why::UnknownView(5)
+        )
+    );
 }
 
 #[test]
 fn lines_of_rows_are_counted(rt: HostRuntime) {
-    assert!(rt; is_refused(&rt, b"TABLE x UInt8\nSESSION 1\nINSERT 2\n1\n2\nREAD v\n", 6, Why::UnknownView(5)));
-    assert!(rt; is_refused(&rt, b"TABLE x UInt8\nSESSION 1\nINSERT 2\n\n2\nSTATES v\n", 6, Why::UnknownView(7)));
-    assert!(rt; is_refused(&rt, b"TABLE x UInt8\nSESSION 1\nINSERT 1\nSESSION 9\nSESSION 3", 5, Why::SessionOrder(8)));
-    assert!(rt; is_read(&rt, b"TABLE x UInt8\nSESSION 1\nINSERT 1\nSESSION 9\nINSERT 0\nSESSION 2", 0, 2));
+    assert!(rt;
+        is_refused(
+            &rt,
+            b"TABLE x UInt8\nSESSION 1\nINSERT 2\n1\n2\nREAD v\n",
+            6,
+            Why::UnknownView(5)
+        )
+    );
+    assert!(rt;
+        is_refused(
+            &rt,
+            b"TABLE x UInt8\nSESSION 1\nINSERT 2\n\n2\nSTATES v\n",
+            6,
+            Why::UnknownView(7)
+        )
+    );
+    assert!(rt;
+        is_refused(
+            &rt,
+            b"TABLE x UInt8\nSESSION 1\nINSERT 1\nSESSION 9\nSESSION 3",
+            5,
+            Why::SessionOrder(8)
+        )
+    );
+    assert!(rt;
+        is_read(
+            &rt,
+            b"TABLE x UInt8\nSESSION 1\nINSERT 1\nSESSION 9\nINSERT 0\nSESSION 2",
+            0,
+            2
+        )
+    );
 }
 
 #[test]
