@@ -1,12 +1,12 @@
 -- Lines of a text by their places.
 use Rattle.std.proofs.Common.{◌≡◌, refl, sym, ap, subst, ◌∙◌, ◌⊎◌, inl, inr, ℕ, zero, suc, ◌+◌, ◌-◌, ◌≤◌, ◌<◌, min, List, [], ◌∷◌, ◌++◌, length, map, take, drop, slice_range, Some, arith, length-drop, length-take-le}
-use Rattle.std.proofs.lemmas.List.{drop-drop, take_min}
+use Rattle.std.proofs.lemmas.List.{drop-drop, length-map, take_min}
 use Rattle.std.proofs.lemmas.List.Folds.{drop_split}
 use Rattle.std.proofs.Math.Nat.{eq-or-lt_of_le}
 use Rattle.std.proofs.Math.Seq.{take-append-add}
 use Rattle.std.proofs.lemmas.Grind.{common_steps}
 use Rattle.tsv_text.specs.Lines.{lines_of}
-use Rattle.script_text.specs.Lines.{TextLine, end_of, first_of, lines_at, place_behind, placed, Rows, rows_in}
+use Rattle.script_text.specs.Lines.{TextLine, end_of, first_of, lines_at, place_behind, placed, Rows, rows_behind, rows_in}
 use Rattle.script_text.specs.Placing.{IsBehindRows}
 use Rattle.line_reader.proofs.Lines.{lines_of-nil}
 use Rattle.script_text.proofs.Cuts.{IsCut, cut}
@@ -206,3 +206,10 @@ all_passed text at count left to le h e =
       omega (arith, end, far),
       h.within,
     )
+
+-- ---- as many lines as are wanted
+
+pub as_many : (text : List ℕ) (at to count : ℕ) → count ≤ length (lines_at text at) → rows_in text at to count ≡ rows_behind at count (lines_at text at)
+    → length (lines_of (slice_range text at to)) ≡ count
+as_many text at to count some same =
+    ap (λ (rows : Rows). length rows.lines) same ∙ length-map (take count (lines_at text at)) (λ (line : TextLine). line.bytes) ∙ length-take-le count (lines_at text at) some

@@ -44,7 +44,7 @@ no_form_steps text s line behind LineFault.OutOfMemory full h = tt
 pub record IsRead (text : List ℕ) (table : code.Script) (from : ℕ) (s : code.Script) (at number : ℕ) : Type 0 where
   pub goes : (r : Result Script RequestFault) → ComesTo (script_of text s) number (lines_at text at) r → ComesTo (script_of text table) 2 (lines_at text from) r
   pub views : AreViews s.views
-  pub sessions : AreSessions (length text) s
+  pub sessions : AreSessions text s
   pub within : at ≤ length text
   pub count : number ≤ at + 2
 

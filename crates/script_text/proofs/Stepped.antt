@@ -32,7 +32,7 @@ keeps_views s (Ok after) h e = subst AreViews (sym e) h
 keeps_views s (Err refusal) h e = tt
 
 alone_steps : (text : List ℕ) (s : code.Script) (at : ℕ) (form : Line) (r : Result code.Script Refusal) → row_count form ≡ 0 → at ≤ length text
-    → Says (script_of text) r (line_added (script_of text s) at (lines_at text at) form) → IfOk r (λ after. AreViews after.views) → IfOk r (AreSessions (length text))
+    → Says (script_of text) r (line_added (script_of text s) at (lines_at text at) form) → IfOk r (λ after. AreViews after.views) → IfOk r (AreSessions text)
     → Steps text at (IsAdded text s at form) (alone at r)
 alone_steps text s at form (Ok after) none le e views sessions = (
   ap (λ (r : Result Script Why). and_then r (λ (next : Script). Ok (next, row_count form))) e ∙ ap (λ k. Ok (script_of text after, k)) none,
@@ -43,7 +43,7 @@ alone_steps text s at form (Err Refusal.OutOfMemory) none le e views sessions = 
 
 pub alone_line : (text : List ℕ) (s : code.Script) (at : ℕ) (written : WrittenLine) (form : Line) (r : Result code.Script Refusal) (answer : Result Step Refusal)
     → line_of written ≡ form → answer ≡ alone at r → row_count form ≡ 0 → at ≤ length text
-    → Says (script_of text) r (line_added (script_of text s) at (lines_at text at) form) → IfOk r (λ after. AreViews after.views) → IfOk r (AreSessions (length text))
+    → Says (script_of text) r (line_added (script_of text s) at (lines_at text at) form) → IfOk r (λ after. AreViews after.views) → IfOk r (AreSessions text)
     → Steps text at (IsAdded text s at (line_of written)) answer
 alone_line text s at written form r answer is same none le e views sessions =
     subst (λ (f : Line). Steps text at (IsAdded text s at f) answer) (sym is)
@@ -133,38 +133,38 @@ statement_lost text s after statement none still =
     ap (λ (xs : List Session). with_sessions (script_of text s) (map (statements_of text) xs)) still
     ∙ sym (ap (λ (xs : List Session). with_sessions (script_of text s) (to_last (statement_of text statement) (map (statements_of text) xs))) none)
 
-pub statement_kept : (whole : ℕ) (s : code.Script) (before after : List Session) (last more : Session) (statement : code_statement.Statement)
+pub statement_kept : (text : List ℕ) (s : code.Script) (before after : List Session) (last more : Session) (statement : code_statement.Statement)
     → s.sessions ≡ before ++ last ∷ [] → more.statements ≡ last.statements ++ statement ∷ [] → after ≡ before ++ more ∷ []
-    → AreSessions whole s → IsStatement whole (length s.views.list) statement → AreSessions whole (record { views = s.views; sessions = after })
-statement_kept whole s before after last more statement old grown new h one =
+    → AreSessions text s → IsStatement text (length s.views.list) statement → AreSessions text (record { views = s.views; sessions = after })
+statement_kept text s before after last more statement old grown new h one =
     let many = as_many before after s.sessions last more statement old grown new in
     let few = h.few in
     record {
       few = omega (arith, many, few);
-      statements = each_grown before after s.sessions last more statement old grown new (IsStatement whole (length s.views.list)) h.statements one;
+      statements = each_grown before after s.sessions last more statement old grown new (IsStatement text (length s.views.list)) h.statements one;
     }
 
-pub none_kept : (whole : ℕ) (s : code.Script) (after : List Session) → after ≡ [] → AreSessions whole (record { views = s.views; sessions = after })
-none_kept whole s after still =
-    subst (λ (xs : List Session). AreSessions whole (record { views = s.views; sessions = xs })) (sym still) (record { few = omega arith; statements = tt })
+pub none_kept : (text : List ℕ) (s : code.Script) (after : List Session) → after ≡ [] → AreSessions text (record { views = s.views; sessions = after })
+none_kept text s after still =
+    subst (λ (xs : List Session). AreSessions text (record { views = s.views; sessions = xs })) (sym still) (record { few = omega arith; statements = tt })
 
 -- ---- views
 
-more_views : (whole m n : ℕ) → m ≤ n → (st : code_statement.Statement) → IsStatement whole m st → IsStatement whole n st
-more_views whole m n le (variants.Insert lines) h = h
-more_views whole m n le (variants.Load view lines) h = (let l = h.0 in omega (arith, le, l), h.1)
-more_views whole m n le (variants.Read view) h = omega (arith, le, h)
-more_views whole m n le (variants.States view) h = omega (arith, le, h)
+more_views : (text : List ℕ) (m n : ℕ) → m ≤ n → (st : code_statement.Statement) → IsStatement text m st → IsStatement text n st
+more_views text m n le (variants.Insert lines) h = h
+more_views text m n le (variants.Load view lines) h = (let l = h.0 in omega (arith, le, l), h.1)
+more_views text m n le (variants.Read view) h = omega (arith, le, h)
+more_views text m n le (variants.States view) h = omega (arith, le, h)
 
 abbrev with_list : code.Script → List code_view.View → code.Script
 with_list s list = record { views = record { schema = s.views.schema; list = list }; sessions = s.sessions }
 
-pub view_kept : (whole : ℕ) (s : code.Script) (view : code_view.View) (list : List code_view.View) → list ≡ s.views.list ++ view ∷ [] → AreSessions whole s → AreSessions whole (with_list s list)
-view_kept whole s view list new h =
+pub view_kept : (text : List ℕ) (s : code.Script) (view : code_view.View) (list : List code_view.View) → list ≡ s.views.list ++ view ∷ [] → AreSessions text s → AreSessions text (with_list s list)
+view_kept text s view list new h =
     let many : length list ≡ length s.views.list + 1 = ap length new ∙ length-append s.views.list (view ∷ []) in
     let le : length s.views.list ≤ length list = omega (arith, many) in
     record {
       few = h.few;
-      statements = every-map (λ (session : Session). Every (IsStatement whole (length s.views.list)) session.statements) (λ (session : Session). Every (IsStatement whole (length list)) session.statements)
-          (λ session. every-map (IsStatement whole (length s.views.list)) (IsStatement whole (length list)) (more_views whole (length s.views.list) (length list) le) session.statements) s.sessions h.statements;
+      statements = every-map (λ (session : Session). Every (IsStatement text (length s.views.list)) session.statements) (λ (session : Session). Every (IsStatement text (length list)) session.statements)
+          (λ session. every-map (IsStatement text (length s.views.list)) (IsStatement text (length list)) (more_views text (length s.views.list) (length list) le) session.statements) s.sessions h.statements;
     }

@@ -1,11 +1,13 @@
 -- What the reader of a script answers.
-use Rattle.std.specs.Prelude.{ℕ, ◌≤◌, ◌<◌, List, length, map, Result, Ok, Err}
+use Rattle.std.specs.Prelude.{◌≡◌, ℕ, ◌≤◌, ◌<◌, List, length, map, Result, Ok, Err}
+use Rattle.std.specs.List.{slice_range}
 use Rattle.agg_defs.specs.declared.views.Views.{Views}
 use Rattle.line_forms.specs.Letters.{Every}
 use Rattle.refusals.specs.declared.why.RequestFault.{RequestFault}
 use Rattle.request_rules.specs.Tables.{AreLegal}
 use Rattle.request_rules.specs.Views.{schema_of}
 use Rattle.script_rules.specs.Folds.{views_of}
+use Rattle.tsv_text.specs.Lines.{lines_of}
 use Rattle.script_text.specs.Lines.{Rows, lines_at, rows_in}
 use Rattle.script_text.specs.Scripts.{Statement, Insert, Load, Read, States, Script}
 use Rattle.script_text.specs.Steps.{IsScriptOf}
@@ -43,18 +45,19 @@ pub record AreViews (views : Views) : Type 0 where
   pub legal : AreLegal (schema_of views.schema)
   pub few_views : length views.list ≤ 16
 
--- lines that stand within a text of so many bytes
-abbrev pub AreWithin : ℕ → code_lines.Lines → Type 0
-AreWithin whole lines = (lines.from ≤ lines.to) × (lines.to ≤ whole)
+-- The places are in the text, one not before the other, and between them are as many lines as are counted.
+abbrev pub AreWithin : List ℕ → code_lines.Lines → Type 0
+AreWithin text lines =
+    (lines.from ≤ lines.to) × (lines.to ≤ length text) × (length (lines_of (slice_range text lines.from lines.to)) ≡ lines.count)
 
--- A statement over so many views, whose lines stand within a text of so many bytes.
-abbrev pub IsStatement : ℕ → ℕ → code_statement.Statement → Type 0
-IsStatement whole views (code.Insert lines) = AreWithin whole lines
-IsStatement whole views (code.Load view lines) = (view < views) × AreWithin whole lines
-IsStatement whole views (code.Read view) = view < views
-IsStatement whole views (code.States view) = view < views
+-- A statement over so many views, whose lines stand within the text.
+abbrev pub IsStatement : List ℕ → ℕ → code_statement.Statement → Type 0
+IsStatement text views (code.Insert lines) = AreWithin text lines
+IsStatement text views (code.Load view lines) = (view < views) × AreWithin text lines
+IsStatement text views (code.Read view) = view < views
+IsStatement text views (code.States view) = view < views
 
 -- At most 32 sessions of such statements.
-pub record AreSessions (whole : ℕ) (s : code_script.Script) : Type 0 where
+pub record AreSessions (text : List ℕ) (s : code_script.Script) : Type 0 where
   pub few : length s.sessions ≤ 32
-  pub statements : Every (λ (session : Session). Every (IsStatement whole (length s.views.list)) session.statements) s.sessions
+  pub statements : Every (λ (session : Session). Every (IsStatement text (length s.views.list)) session.statements) s.sessions

@@ -30,7 +30,7 @@ step_of text step = (script_of text step.script, step.rows)
 -- the script goes on behind lines of rows that begin at this place
 pub record IsStep (text : List ℕ) (at : ℕ) (step : Step) : Type 0 where
   pub views : AreViews step.script.views
-  pub sessions : AreSessions (length text) step.script
+  pub sessions : AreSessions text step.script
   pub taken : IsTaken text at step.at step.rows
 
 -- An answer is what a line comes to. Want of memory says nothing.
@@ -54,6 +54,6 @@ alone at (Err refusal) = Err refusal
 
 -- An answer is what the lines come to from a place on, behind what was read of the script. Want of memory says nothing.
 abbrev pub ReadsOn : List ℕ → code.Script → ℕ → Result code.Script RequestFault → Type 0
-ReadsOn text s at (Ok whole) = ComesTo (script_of text s) 2 (lines_at text at) (Ok (script_of text whole)) × AreViews whole.views × AreSessions (length text) whole
+ReadsOn text s at (Ok whole) = ComesTo (script_of text s) 2 (lines_at text at) (Ok (script_of text whole)) × AreViews whole.views × AreSessions text whole
 ReadsOn text s at (Err (RequestFault.Bad line why)) = ComesTo (script_of text s) 2 (lines_at text at) (Err (RequestFault.Bad line why))
 ReadsOn text s at (Err RequestFault.OutOfMemory) = Unit {0}

@@ -31,7 +31,7 @@ fn on_line(line: u64, refusal: Refusal) -> RequestFault
 fn of_table(alloc: Global, schema: Schema) -> Script
     ensures table { result.views.schema ≡ schema }
     ensures none { (text : List ℕ) → script_of text result ≡ of_table (schema_of schema) }
-    ensures sessions { (whole : ℕ) → AreSessions whole result }
+    ensures sessions { (text : List ℕ) → AreSessions text result }
     ensures views { length result.views.list ≤ 16 }
 {
     Script {
@@ -55,7 +55,7 @@ fn read_line(
     requires line { length line.now ≤ length text.now }
     requires within { behind ≤ length text.now }
     requires views { AreViews script.views }
-    requires sessions { AreSessions (length text.now) script }
+    requires sessions { AreSessions text.now script }
     ensures { Steps text.now behind (IsJudgedAt text.now script line.now behind) result }
 {
     if is_blank(line) {
@@ -81,7 +81,7 @@ fn read_lines(
     requires short { length text.now < 2 ^ 32 }
     requires within { from ≤ length text.now }
     requires views { AreViews table.views }
-    requires sessions { AreSessions (length text.now) table }
+    requires sessions { AreSessions text.now table }
     ensures { ReadsOn text.now table from result }
 {
     let mut script = table;
@@ -120,7 +120,7 @@ pub fn read_script(alloc: Global, text: &[u8]) -> Result<Script, RequestFault>
     requires { length text.now < 2 ^ 32 }
     ensures script { IsScriptAnswer text.now result }
     ensures views { IfOk result (λ script. AreViews script.views) }
-    ensures sessions { IfOk result (AreSessions (length text.now)) }
+    ensures sessions { IfOk result (AreSessions text.now) }
 {
     let (line, behind) = line_1(text);
     match schema_in(alloc, line) {

@@ -34,7 +34,7 @@ fn rows_at(text: &[u8], at: usize, count: u128) -> Result<Lines, Refusal>
     ensures taken { Says (rows_of text.now) result (rules.rows_taken at count (lines_at text.now at)) }
     ensures all { IfOk result (λ lines. lines.count ≡ count) }
     ensures behind { IfOk result (λ lines. IsTaken text.now at lines.to lines.count) }
-    ensures within { IfOk result (AreWithin (length text.now)) }
+    ensures within { IfOk result (AreWithin text.now) }
 {
     match place_behind(text, at, count) {
         Some(to) => Ok(Lines {
@@ -57,7 +57,7 @@ fn add_view(
     requires views { AreViews script.views }
     ensures added { (text : List ℕ) → Says (script_of text) result (rules.view_added (script_of text script) (name_of name.now) (select_of select.now)) }
     ensures views { IfOk result (λ after. AreViews after.views) }
-    ensures sessions { (whole : ℕ) → AreSessions whole script → IfOk result (AreSessions whole) }
+    ensures sessions { (text : List ℕ) → AreSessions text script → IfOk result (AreSessions text) }
 {
     let views = script.views.list.as_slice();
     let view = judge_view(alloc, &script.views.schema, views, name, select)?;
@@ -69,7 +69,7 @@ fn add_view(
 fn add_session(alloc: Global, mut script: Script, at: u64, number: i128) -> Result<Script, Refusal>
     ensures added { (text : List ℕ) → Says (script_of text) result (rules.session_added (script_of text script) at number) }
     ensures views { IfOk result (λ after. after.views ≡ script.views) }
-    ensures sessions { (whole : ℕ) → AreSessions whole script → IfOk result (AreSessions whole) }
+    ensures sessions { (text : List ℕ) → AreSessions text script → IfOk result (AreSessions text) }
 {
     judge_session(script.sessions.len() as u64, at, number)?;
     script.sessions.push(Session {
@@ -82,7 +82,7 @@ fn add_session(alloc: Global, mut script: Script, at: u64, number: i128) -> Resu
 fn add_statement(mut script: Script, statement: Statement) -> Result<Script, OutOfMemory>
     ensures added { (text : List ℕ) → IfOk result (λ after. script_of text after ≡ with_statement (script_of text script) (statement_of text statement)) }
     ensures views { IfOk result (λ after. after.views ≡ script.views) }
-    ensures sessions { (whole : ℕ) → AreSessions whole script → IsStatement whole (length script.views.list) statement → IfOk result (AreSessions whole) }
+    ensures sessions { (text : List ℕ) → AreSessions text script → IsStatement text (length script.views.list) statement → IfOk result (AreSessions text) }
 {
     if let Some(mut session) = script.sessions.pop() {
         session.statements.push(statement)?;
@@ -96,7 +96,7 @@ fn add_read(script: Script, name: &WrittenName) -> Result<Script, Refusal>
     requires { AreViews script.views }
     ensures added { (text : List ℕ) → Says (script_of text) result (rules.read_added (script_of text script) (name_of name.now)) }
     ensures views { IfOk result (λ after. after.views ≡ script.views) }
-    ensures sessions { (whole : ℕ) → AreSessions whole script → IfOk result (AreSessions whole) }
+    ensures sessions { (text : List ℕ) → AreSessions text script → IfOk result (AreSessions text) }
 {
     let view = find_view(script.views.list.as_slice(), name)?;
     let after = add_statement(script, Statement::Read { view })?;
@@ -108,7 +108,7 @@ fn add_states(script: Script, name: &WrittenName) -> Result<Script, Refusal>
     requires { AreViews script.views }
     ensures added { (text : List ℕ) → Says (script_of text) result (rules.states_added (script_of text script) (name_of name.now)) }
     ensures views { IfOk result (λ after. after.views ≡ script.views) }
-    ensures sessions { (whole : ℕ) → AreSessions whole script → IfOk result (AreSessions whole) }
+    ensures sessions { (text : List ℕ) → AreSessions text script → IfOk result (AreSessions text) }
 {
     let view = find_view(script.views.list.as_slice(), name)?;
     let after = add_statement(script, Statement::States { view })?;
@@ -120,7 +120,7 @@ fn add_insert(text: &[u8], at: usize, script: Script, count: u128) -> Result<Ste
     requires short { length text.now < 2 ^ 32 }
     requires within { at ≤ length text.now }
     requires views { AreViews script.views }
-    requires sessions { AreSessions (length text.now) script }
+    requires sessions { AreSessions text.now script }
     ensures { Steps text.now at (IsAdded text.now script at (forms.Insert count)) result }
 {
     let lines = rows_at(text, at, count)?;
@@ -143,7 +143,7 @@ fn add_load(
     requires short { length text.now < 2 ^ 32 }
     requires within { at ≤ length text.now }
     requires views { AreViews script.views }
-    requires sessions { AreSessions (length text.now) script }
+    requires sessions { AreSessions text.now script }
     ensures { Steps text.now at (IsAdded text.now script at (forms.Load (name_of name.now) count)) result }
 {
     let view = find_view(script.views.list.as_slice(), name)?;
@@ -186,7 +186,7 @@ pub(crate) fn add_line(
     requires short { length text.now < 2 ^ 32 }
     requires within { at ≤ length text.now }
     requires views { AreViews script.views }
-    requires sessions { AreSessions (length text.now) script }
+    requires sessions { AreSessions text.now script }
     ensures { Steps text.now at (IsAdded text.now script at (line_of form.now)) result }
 {
     match form {

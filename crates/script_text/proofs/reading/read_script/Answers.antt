@@ -1,4 +1,4 @@
-use Rattle.std.proofs.Common.{Err, length, subst, sym}
+use Rattle.std.proofs.Common.{Err, subst, sym}
 use Rattle.refusals.specs.declared.why.RequestFault.{RequestFault}
 use Rattle.request_rules.specs.Views.{schema_of}
 use Rattle.script_text.specs.Answers.{IsScriptAnswer}
@@ -6,7 +6,7 @@ use Rattle.script_text.proofs.Read.{table_refused, whole_read}
 use Rattle.script_text.proofs.reading.read_script.Goals as goal
 
 pub read_lines-requires-clause-sessions : goal.read_lines-requires-clause-sessions
-read_lines-requires-clause-sessions c = c.of_table.ensures.sessions (length c.args.text.now)
+read_lines-requires-clause-sessions c = c.of_table.ensures.sessions c.args.text.now
 
 pub returns-in-Ok-clause-script : goal.returns-in-Ok-clause-script
 returns-in-Ok-clause-script c =

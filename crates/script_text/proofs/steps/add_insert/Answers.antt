@@ -1,4 +1,4 @@
-use Rattle.std.proofs.Common.{length, subst, sym}
+use Rattle.std.proofs.Common.{subst, sym}
 use Rattle.script_text.specs.Answers.{AreViews}
 use Rattle.script_text.proofs.Stepped.{insert_step}
 use Rattle.script_text.proofs.steps.add_insert.Goals as goal
@@ -9,7 +9,7 @@ returns c = (
       (c.in_ok-script.ensures.added c.args.text.now),
   record {
     views = subst AreViews (sym c.in_ok-script.ensures.views) c.requires.views;
-    sessions = c.in_ok-script.ensures.sessions (length c.args.text.now) c.requires.sessions c.in_ok-lines.ensures.within;
+    sessions = c.in_ok-script.ensures.sessions c.args.text.now c.requires.sessions c.in_ok-lines.ensures.within;
     taken = c.in_ok-lines.ensures.behind;
   },
 )

@@ -14,7 +14,7 @@ returns c = (
       (c.in_ok-script.ensures.added c.args.text.now),
   record {
     views = subst AreViews (sym c.in_ok-script.ensures.views) c.requires.views;
-    sessions = c.in_ok-script.ensures.sessions (length c.args.text.now) c.requires.sessions (subst (λ (views : List View). c.in_ok-view.view < length views) c.as_slice.ensures c.in_ok-view.ensures.in_range, c.in_ok-lines.ensures.within);
+    sessions = c.in_ok-script.ensures.sessions c.args.text.now c.requires.sessions (subst (λ (views : List View). c.in_ok-view.view < length views) c.as_slice.ensures c.in_ok-view.ensures.in_range, c.in_ok-lines.ensures.within);
     taken = c.in_ok-lines.ensures.behind;
   },
 )

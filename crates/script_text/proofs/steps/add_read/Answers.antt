@@ -4,4 +4,4 @@ use Rattle.script_text.proofs.steps.add_read.Goals as goal
 
 pub returns-clause-sessions : goal.returns-clause-sessions
 returns-clause-sessions c =
-    λ whole h. c.in_ok-after.ensures.sessions whole h (subst (λ (views : List View). c.in_ok-view.view < length views) c.as_slice.ensures c.in_ok-view.ensures.in_range)
+    λ text h. c.in_ok-after.ensures.sessions text h (subst (λ (views : List View). c.in_ok-view.view < length views) c.as_slice.ensures c.in_ok-view.ensures.in_range)

@@ -18,10 +18,10 @@ returns-clause-added c =
 
 pub returns-clause-sessions : goal.returns-clause-sessions
 returns-clause-sessions c =
-    λ whole h one. elim c.match-pop.branch [
+    λ text h one. elim c.match-pop.branch [
       | in-Some+in_ok-push+in_ok-push-2 w ↦
           let more : Session = record { statements = w.push.new.self } in
-          subst (AreSessions whole) (sym w.script-is)
-          (statement_kept whole c.args.script c.pop.new.self w.push-in-Some.new.self w.in-Some.session more c.args.statement w.in-Some.ensures w.in_ok-push.ensures.ok w.in_ok-push-2.ensures.ok h one)
-      | in_default w ↦ subst (AreSessions whole) (sym w.script-is) (none_kept whole c.args.script c.pop.new.self w.in_default.ensures.1)
+          subst (AreSessions text) (sym w.script-is)
+          (statement_kept text c.args.script c.pop.new.self w.push-in-Some.new.self w.in-Some.session more c.args.statement w.in-Some.ensures w.in_ok-push.ensures.ok w.in_ok-push-2.ensures.ok h one)
+      | in_default w ↦ subst (AreSessions text) (sym w.script-is) (none_kept text c.args.script c.pop.new.self w.in_default.ensures.1)
     ]
