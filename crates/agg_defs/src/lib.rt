@@ -12,8 +12,6 @@ mod results;
 // queries and scripts
 mod plan;
 mod schema;
-#[cfg(test)]
-mod tests;
 mod views;
 
 pub use agg_meaning::law_states;

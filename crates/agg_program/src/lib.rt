@@ -18,6 +18,3 @@ pub use answer::Call;
 pub use fields::FieldFault;
 pub use program::run;
 pub use status::{RowWhy, Size, Status, Why, status_number};
-
-#[cfg(test)]
-mod tests;

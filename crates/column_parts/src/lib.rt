@@ -14,6 +14,3 @@ pub use number_type::NumberType;
 pub use numbers::Numbers;
 pub use places::{append_places, part};
 pub use texts::Texts;
-
-#[cfg(test)]
-mod tests;

@@ -7,6 +7,10 @@ mod batches;
 #[cfg(test)]
 mod deep_values;
 #[cfg(test)]
+mod items;
+#[cfg(test)]
+mod parts;
+#[cfg(test)]
 mod plain_fields;
 #[cfg(test)]
 mod samples;

@@ -5,4 +5,6 @@
 #[cfg(test)]
 mod chains;
 #[cfg(test)]
+mod copies;
+#[cfg(test)]
 mod parts;

@@ -6,7 +6,5 @@ mod goal;
 mod judge;
 mod mark;
 mod step;
-#[cfg(test)]
-mod tests;
 
 pub use judge::{law_fields, syntax_fault};

@@ -4,8 +4,6 @@
 
 mod numbers;
 mod quote;
-#[cfg(test)]
-mod tests;
 mod token;
 
 pub use token::{Placed, Token, next_token};

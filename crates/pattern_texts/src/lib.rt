@@ -6,8 +6,6 @@
 mod fault;
 mod phase;
 mod reading;
-#[cfg(test)]
-mod tests;
 
 pub use fault::PatternFault;
 pub use reading::{law_pattern_reader, read_pattern};

@@ -9,6 +9,3 @@ mod links;
 mod search;
 
 pub use search::matches;
-
-#[cfg(test)]
-mod tests;

@@ -5,8 +5,6 @@
 mod escaping;
 mod fault;
 mod lines;
-#[cfg(test)]
-mod tests;
 mod unescaping;
 
 pub use escaping::{escape, law_round_trip};

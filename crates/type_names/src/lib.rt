@@ -6,8 +6,6 @@
 mod chain_name;
 mod goal;
 mod judge;
-#[cfg(test)]
-mod tests;
 mod words;
 
 pub use chain_name::{NameFault, NameShape, read_chain_name};

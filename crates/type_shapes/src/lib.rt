@@ -10,8 +10,6 @@ mod mark;
 mod plain;
 mod reading;
 mod shape;
-#[cfg(test)]
-mod tests;
 
 pub use laws::law_types_read_back;
 pub use literal::{has_minus, integer, literal as read_literal};

@@ -6,8 +6,6 @@
 mod chain_names;
 mod param_texts;
 mod pattern_texts;
-#[cfg(test)]
-mod tests;
 mod types;
 
 pub use chain_names::{law_name_reads_back, print_chain};

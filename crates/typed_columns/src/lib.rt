@@ -24,6 +24,3 @@ mod own;
 pub use args::Args;
 pub use column::{Column, Kind};
 pub use item::{Item, PairSpan, Span};
-
-#[cfg(test)]
-mod tests;

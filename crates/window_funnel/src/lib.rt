@@ -8,6 +8,3 @@ mod funnel;
 mod starts;
 
 pub use funnel::level;
-
-#[cfg(test)]
-mod tests;

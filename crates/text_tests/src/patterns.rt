@@ -1,7 +1,7 @@
 //! Texts of patterns, read.
 ghost use Rattle.std.specs.Prelude.{◌≤◌};
 
-use crate::{PatternFault, read_pattern};
+use pattern_texts::{PatternFault, read_pattern};
 use std::alloc::Global;
 use std::test::Fail;
 use value_types::{Op, PatItem, PatLink};

@@ -2,7 +2,7 @@
 ghost use Rattle.std.specs.Prelude.{◌≡◌, [], ◌∷◌, IfOk};
 ghost use Rattle.value_types.specs.declared.pattern.PatItem.{PatItem};
 
-use crate::matches;
+use sequence_pattern::matches;
 use std::alloc::Global;
 use std::test::Fail;
 use value_lists::Seq;

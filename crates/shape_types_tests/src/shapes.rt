@@ -1,9 +1,9 @@
 //! Texts of types, read.
 
-use crate::{ShapeFault, TypeShape, law_types_read_back, read_type_shape};
 use std::alloc::Global;
 use std::process::Abort;
 use std::test::Fail;
+use type_shapes::{ShapeFault, TypeShape, law_types_read_back, read_type_shape};
 use type_texts::print_type;
 use value_lists::{Boxed, Bytes, OutOfMemory, Seq};
 use value_types::{Chain, Leaf, Literal, Ty};

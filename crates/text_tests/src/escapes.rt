@@ -1,6 +1,6 @@
-use crate::{TextFault, escape, split_fields, unescape};
 use std::test::Fail;
 use std::vec::Vec;
+use tsv_text::{TextFault, escape, split_fields, unescape};
 
 fn fault_of(rt: &HostRuntime, field: &[u8]) -> Option<TextFault> {
     match unescape(rt.alloc(), field) {

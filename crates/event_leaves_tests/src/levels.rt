@@ -1,8 +1,8 @@
 //! Levels over small lists of events.
 ghost use Rattle.std.specs.Prelude.{◌≡◌};
 
-use crate::level;
 use value_types::Event;
+use window_funnel::level;
 
 const FIRST: u32 = 1;
 

@@ -1,5 +1,5 @@
 //! What no clause says: that the calls succeed with ample memory.
-use crate::{Call, Column, GroupPlan, Legal, Schema, View, Views};
+use agg_defs::{Call, Column, GroupPlan, Legal, Schema, View, Views};
 use std::alloc::Global;
 use std::test::Fail;
 use value_types::{Chain, Leaf, OutOfMemory, Seq, Ty};

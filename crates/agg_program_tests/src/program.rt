@@ -1,5 +1,5 @@
-use crate::{run, status_number};
 use agg_ports::{MemorySink, MemorySource};
+use agg_program::{run, status_number};
 use std::alloc::Global;
 use std::test::Fail;
 use std::thread::Threads;

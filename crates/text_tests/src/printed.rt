@@ -1,5 +1,5 @@
-use crate::{print_chain, print_type};
 use std::test::Fail;
+use type_texts::{print_chain, print_type};
 use value_lists::{Boxed, Seq};
 use value_types::{Chain, Leaf, Ty};
 

@@ -1,4 +1,4 @@
-use crate::syntax_fault;
+use field_texts::syntax_fault;
 use std::test::Fail;
 use value_lists::{Boxed, OutOfMemory};
 use value_types::Ty;

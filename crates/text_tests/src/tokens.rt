@@ -1,4 +1,4 @@
-use crate::{Token, next_token};
+use line_tokens::{Token, next_token};
 use std::process::Abort;
 
 /// The bytes of a token and how many are left from it on, as a test reads them.

@@ -1,7 +1,7 @@
-use crate::{NameFault, read_chain_name, type_fault};
 use agg_terms::{LeafName, Suffix};
 use std::process::Abort;
 use std::test::Fail;
+use type_names::{NameFault, read_chain_name, type_fault};
 use value_lists::OutOfMemory;
 
 fn name_fault(rt: &HostRuntime, name: &[u8]) -> Option<NameFault> {

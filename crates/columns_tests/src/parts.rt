@@ -1,5 +1,5 @@
 //! What no clause says: that the calls succeed with ample memory.
-use crate::{NumberType, Numbers, Texts};
+use column_parts::{NumberType, Numbers, Texts};
 use std::alloc::Global;
 use std::test::Fail;
 use value_lists::OutOfMemory;

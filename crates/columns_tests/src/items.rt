@@ -1,6 +1,6 @@
 //! What no clause says: that the calls succeed with ample memory.
-use crate::{Args, Item};
 use std::test::Fail;
+use typed_columns::{Args, Item};
 use value_types::{Tree, Value};
 
 #[test]
