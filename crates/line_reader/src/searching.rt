@@ -26,12 +26,19 @@ pub(crate) fn whole_len(text: &[u8]) -> usize
     0
 }
 
+// How many bytes are counted in one byte: fewer than 256, and many vectors.
+const COUNTED_AT_ONCE: usize = 192;
+
 /// How many newlines a text has.
 pub(crate) fn count_newlines(text: &[u8]) -> usize {
-    // with no branch in the loop, many bytes are counted at a time
     let mut count = 0usize;
-    for byte in text {
-        count = count.wrapping_add(usize::from(*byte == b'\n'));
+    for chunk in text.chunks(COUNTED_AT_ONCE) {
+        // with no branch in the loop and a count of one byte, a vector of bytes is counted at a time
+        let mut few = 0u8;
+        for byte in chunk {
+            few = few.wrapping_add(u8::from(*byte == b'\n'));
+        }
+        count = count.wrapping_add(usize::from(few));
     }
     count
 }

@@ -1,5 +1,5 @@
 //! States of rows of one argument, and what they give.
-ghost use Rattle.std.specs.Prelude.{◌≡◌, IfOk, true, map};
+ghost use Rattle.std.specs.Prelude.{◌≡◌, true, map};
 ghost use Rattle.value_types.specs.Folds.{leaf_of, ty_of};
 ghost use Rattle.agg_meaning.specs.States.{made_for};
 ghost use Rattle.set_leaves.specs.Served.{is_served};
@@ -8,38 +8,60 @@ ghost use Rattle.set_leaves.specs.Sets.{held};
 use set_leaves::{SetState, serves};
 use std::alloc::Global;
 use typed_columns::Item;
-use value_types::{Leaf, OutOfMemory, Ty, number};
+use value_types::{Leaf, OutOfMemory, Tree, Ty, number};
 
-/// The state of these rows, each a row of one argument.
-pub fn fed(
-    alloc: Global,
-    leaf: &Leaf,
-    args: &[Ty],
-    items: &[Item<'_>],
-) -> Result<SetState, OutOfMemory>
-    requires { is_served (leaf_of leaf.now) (map ty_of args.now) ≡ true }
-    ensures { IfOk result (λ state. (held state).made ≡ made_for (leaf_of leaf.now) (map ty_of args.now)) }
+/// Feeds rows of one argument.
+pub fn feed(alloc: Global, state: &mut SetState, items: &[Item<'_>]) -> Result<(), OutOfMemory>
+    ensures { (held state.new).made ≡ (held state.old).made }
 {
-    let mut state = SetState::fresh(alloc, leaf, args);
     for item in items {
         state.feed_items(alloc, &[*item])?;
     }
-    Ok(state)
+    Ok(())
 }
 
-/// The state of these rows, copied, stored and read back.
-fn read_back(
+/// The tree of a copy.
+fn stored_copy(alloc: Global, state: &SetState) -> Result<Tree, OutOfMemory> {
+    match state.copy(alloc) {
+        Ok(copied) => copied.tree(alloc),
+        Err(error) => Err(error),
+    }
+}
+
+/// Adds the rows of a state that is copied, stored and read back.
+fn merge_read_back(
     alloc: Global,
     leaf: &Leaf,
     args: &[Ty],
-    items: &[Item<'_>],
-) -> Result<SetState, OutOfMemory>
-    requires { is_served (leaf_of leaf.now) (map ty_of args.now) ≡ true }
-    ensures { IfOk result (λ state. (held state).made ≡ made_for (leaf_of leaf.now) (map ty_of args.now)) }
+    state: &mut SetState,
+    apart: &SetState,
+) -> Result<(), OutOfMemory>
+    requires served { is_served (leaf_of leaf.now) (map ty_of args.now) ≡ true }
+    requires made { (held state.old).made ≡ made_for (leaf_of leaf.now) (map ty_of args.now) }
 {
-    let copied = fed(alloc, leaf, args, items)?.copy(alloc)?;
-    let stored = copied.tree(alloc)?;
-    SetState::from_tree(alloc, leaf, args, &stored)
+    let stored = stored_copy(alloc, apart)?;
+    match SetState::from_tree(alloc, leaf, args, &stored) {
+        Ok(read) => state.merge(alloc, &read),
+        Err(error) => Err(error),
+    }
+}
+
+/// How many different rows there are in two lists, fed to these states, of which the second is stored and read back.
+fn count_of(
+    alloc: Global,
+    leaf: &Leaf,
+    args: &[Ty],
+    states: (&mut SetState, &mut SetState),
+    parts: (&[Item<'_>], &[Item<'_>]),
+) -> Result<Option<i128>, OutOfMemory>
+    requires served { is_served (leaf_of leaf.now) (map ty_of args.now) ≡ true }
+    requires made { (held states.0.old).made ≡ made_for (leaf_of leaf.now) (map ty_of args.now) }
+{
+    let (state, apart) = states;
+    feed(alloc, state, parts.0)?;
+    feed(alloc, apart, parts.1)?;
+    merge_read_back(alloc, leaf, args, state, apart)?;
+    Ok(number(&state.finish(alloc)?))
 }
 
 /// How many different rows there are, cut in two: the later ones are merged in from a stored state.
@@ -52,10 +74,9 @@ fn cut_in_two(
 ) -> Result<Option<i128>, OutOfMemory>
     requires { is_served (leaf_of leaf.now) (map ty_of args.now) ≡ true }
 {
-    let mut state = fed(alloc, leaf, args, first)?;
-    let apart = read_back(alloc, leaf, args, later)?;
-    state.merge(alloc, &apart)?;
-    Ok(number(&state.finish(alloc)?))
+    let mut state = SetState::fresh(alloc, leaf, args);
+    let mut apart = SetState::fresh(alloc, leaf, args);
+    count_of(alloc, leaf, args, (&mut state, &mut apart), (first, later))
 }
 
 /// Whether the function is served, and there are so many different rows, wherever they are cut.

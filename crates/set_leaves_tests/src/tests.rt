@@ -1,5 +1,5 @@
 //! Answers with ample memory: numbers, texts, rows of two arguments, and rows of kinds that the argument type hasn't.
-use crate::fed::{counts, fed};
+use crate::fed::{counts, feed};
 use set_leaves::{SetState, serves};
 use std::alloc::Global;
 use std::test::Fail;
@@ -63,6 +63,12 @@ fn feed_pairs(
     Ok(())
 }
 
+fn count_pairs(alloc: Global, state: &mut SetState) -> Result<Option<i128>, OutOfMemory> {
+    let pairs: [(i128, &[u8]); 4] = [(1, b"a"), (1, b"b"), (1, b"a"), (2, b"b")];
+    feed_pairs(alloc, state, &pairs)?;
+    Ok(number(&state.finish(alloc)?))
+}
+
 /// How many different rows of two arguments there are: (1, a), (1, b), (1, a), (2, b).
 fn pairs_counted(alloc: Global) -> Result<Option<i128>, OutOfMemory> {
     let leaf = Leaf::UniqExact;
@@ -71,9 +77,7 @@ fn pairs_counted(alloc: Global) -> Result<Option<i128>, OutOfMemory> {
         return Ok(None);
     }
     let mut state = SetState::fresh(alloc, &leaf, &types);
-    let pairs: [(i128, &[u8]); 4] = [(1, b"a"), (1, b"b"), (1, b"a"), (2, b"b")];
-    feed_pairs(alloc, &mut state, &pairs)?;
-    Ok(number(&state.finish(alloc)?))
+    count_pairs(alloc, &mut state)
 }
 
 #[test]
@@ -82,21 +86,30 @@ fn both_arguments_count(rt: HostRuntime) -> Result<(), Fail> {
     Ok(())
 }
 
+/// Whether a state that is fed 9, 7, 9 is stored as the rows 7 and 9.
+fn stores_in_order(alloc: Global, state: &mut SetState) -> Result<bool, OutOfMemory> {
+    feed(alloc, state, &[Item::Num(9), Item::Num(7), Item::Num(9)])?;
+    Ok(is_seven_and_nine(&state.tree(alloc)?))
+}
+
+fn is_seven_and_nine(tree: &Tree) -> bool {
+    match tree {
+        Tree::Rows(rows) => match rows.as_slice() {
+            [first, second] => is_number(first, 7) && is_number(second, 9),
+            _ => false,
+        },
+        _ => false,
+    }
+}
+
 /// Whether the tree of 9, 7, 9 has the rows 7 and 9.
 fn is_in_order(alloc: Global) -> Result<bool, OutOfMemory> {
     let leaf = Leaf::UniqExact;
     if !serves(&leaf, &[Ty::U8]) {
         return Ok(false);
     }
-    let items = [Item::Num(9), Item::Num(7), Item::Num(9)];
-    let state = fed(alloc, &leaf, &[Ty::U8], &items)?;
-    match state.tree(alloc)? {
-        Tree::Rows(rows) => match rows.as_slice() {
-            [first, second] => Ok(is_number(first, 7) && is_number(second, 9)),
-            _ => Ok(false),
-        },
-        _ => Ok(false),
-    }
+    let mut state = SetState::fresh(alloc, &leaf, &[Ty::U8]);
+    stores_in_order(alloc, &mut state)
 }
 
 fn is_number(row: &Seq<Value>, wanted: i128) -> bool {
@@ -150,6 +163,10 @@ fn stored_rows(alloc: Global) -> Result<Tree, OutOfMemory> {
     Ok(Tree::Rows(rows))
 }
 
+fn finished_number(alloc: Global, state: &SetState) -> Result<Option<i128>, OutOfMemory> {
+    Ok(number(&state.finish(alloc)?))
+}
+
 /// How many different rows a tree has, in which each of seven rows stands twice.
 fn values_counted(alloc: Global) -> Result<Option<i128>, OutOfMemory> {
     let leaf = Leaf::UniqExact;
@@ -158,8 +175,10 @@ fn values_counted(alloc: Global) -> Result<Option<i128>, OutOfMemory> {
         return Ok(None);
     }
     let stored = stored_rows(alloc)?;
-    let state = SetState::from_tree(alloc, &leaf, &types, &stored)?;
-    Ok(number(&state.finish(alloc)?))
+    match SetState::from_tree(alloc, &leaf, &types, &stored) {
+        Ok(state) => finished_number(alloc, &state),
+        Err(error) => Err(error),
+    }
 }
 
 #[test]
@@ -168,15 +187,27 @@ fn values_of_every_kind_are_counted(rt: HostRuntime) -> Result<(), Fail> {
     Ok(())
 }
 
+fn is_fed_by_a_row(alloc: Global, state: &mut SetState) -> Result<bool, OutOfMemory> {
+    let was_fed = state.is_fed();
+    feed(alloc, state, &[Item::Bytes(b"")])?;
+    Ok(!was_fed && state.is_fed())
+}
+
 /// Whether a state is one that a row reached, before and after a row.
 fn rows_are_seen(alloc: Global) -> Result<bool, OutOfMemory> {
     let leaf = Leaf::UniqExact;
     if !serves(&leaf, &[Ty::Str]) {
         return Ok(false);
     }
-    let fresh = SetState::fresh(alloc, &leaf, &[Ty::Str]);
-    let state = fed(alloc, &leaf, &[Ty::Str], &[Item::Bytes(b"")])?;
-    Ok(!fresh.is_fed() && state.is_fed())
+    let mut state = SetState::fresh(alloc, &leaf, &[Ty::Str]);
+    is_fed_by_a_row(alloc, &mut state)
+}
+
+fn is_fed_by_arguments(alloc: Global, state: &mut SetState) -> Result<bool, OutOfMemory> {
+    let mut row = Args::new();
+    row.push(Item::Num(1));
+    state.feed(alloc, &row)?;
+    Ok(state.is_fed())
 }
 
 /// Whether a row given as arguments counts.
@@ -186,10 +217,7 @@ fn arguments_are_fed(alloc: Global) -> Result<bool, OutOfMemory> {
         return Ok(false);
     }
     let mut state = SetState::fresh(alloc, &leaf, &[Ty::U8]);
-    let mut row = Args::new();
-    row.push(Item::Num(1));
-    state.feed(alloc, &row)?;
-    Ok(state.is_fed())
+    is_fed_by_arguments(alloc, &mut state)
 }
 
 #[test]
