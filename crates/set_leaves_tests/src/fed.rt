@@ -51,13 +51,13 @@ fn count_of(
     alloc: Global,
     leaf: &Leaf,
     args: &[Ty],
-    states: (&mut SetState, &mut SetState),
+    state: &mut SetState,
+    apart: &mut SetState,
     parts: (&[Item<'_>], &[Item<'_>]),
 ) -> Result<Option<i128>, OutOfMemory>
     requires served { is_served (leaf_of leaf.now) (map ty_of args.now) ≡ true }
-    requires made { (held states.0.old).made ≡ made_for (leaf_of leaf.now) (map ty_of args.now) }
+    requires made { (held state.old).made ≡ made_for (leaf_of leaf.now) (map ty_of args.now) }
 {
-    let (state, apart) = states;
     feed(alloc, state, parts.0)?;
     feed(alloc, apart, parts.1)?;
     merge_read_back(alloc, leaf, args, state, apart)?;
@@ -76,7 +76,7 @@ fn cut_in_two(
 {
     let mut state = SetState::fresh(alloc, leaf, args);
     let mut apart = SetState::fresh(alloc, leaf, args);
-    count_of(alloc, leaf, args, (&mut state, &mut apart), (first, later))
+    count_of(alloc, leaf, args, &mut state, &mut apart, (first, later))
 }
 
 /// Whether the function is served, and there are so many different rows, wherever they are cut.
