@@ -1,4 +1,4 @@
-mod ShortLines
+pub mod ShortLines
 mod LegalColumns
 mod OneAnswer
 mod Told

@@ -28,7 +28,7 @@ few_letters line =
     omega (arith, few, here, there)
 
 -- the signs of a short line are few
-few_signs : (line : List ℕ) (signs : List Sign) → length line < 2 ^ 32 → Leads signs (letters_of line) [] → length signs < 2 ^ 32
+pub few_signs : (line : List ℕ) (signs : List Sign) → length line < 2 ^ 32 → Leads signs (letters_of line) [] → length signs < 2 ^ 32
 few_signs line signs few h =
     let same = as_long signs (letters_of line) h in
     let all = few_letters line in
@@ -105,7 +105,7 @@ more_few (t ∷ ts) (c ∷ cs) h few =
 more_few [] (c ∷ cs) h few = absurd h
 more_few (t ∷ ts) [] h few = absurd h
 
-calls_few : (ts : List CallText) (cs : List Call) → Each IsCallOf ts cs → length (divided (map call_signs ts)) < 2 ^ 32 → AreFewCalls cs
+pub calls_few : (ts : List CallText) (cs : List Call) → Each IsCallOf ts cs → length (divided (map call_signs ts)) < 2 ^ 32 → AreFewCalls cs
 calls_few [] [] h few = tt
 calls_few (t ∷ ts) (c ∷ cs) h few =
     let both = length-append (call_signs t) (more_parts (map call_signs ts)) in

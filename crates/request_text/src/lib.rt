@@ -9,4 +9,5 @@ mod lines;
 mod query;
 
 pub use laws::law_one_query;
-pub use query::{Query, read_query};
+pub use lines::{no_form, schema_in};
+pub use query::{Query, on_line, read_query};

@@ -13,7 +13,7 @@ use request_rules::{Refusal, judge_select, judge_table};
 use std::alloc::Global;
 
 /// Why a line that is none of its form is refused.
-fn no_form(fault: LineFault) -> Refusal
+pub fn no_form(fault: LineFault) -> Refusal
     ensures { result ≡ no_form fault }
 {
     match fault {
@@ -22,8 +22,13 @@ fn no_form(fault: LineFault) -> Refusal
     }
 }
 
-/// The columns of the table that a line spells.
-pub(crate) fn schema_in(alloc: Global, line: &[u8]) -> Result<Schema, Refusal>
+/// The columns of the table that a line of fewer than 2^32 bytes spells, as `TABLE day UInt16, page String`.
+///
+/// # Errors
+///
+/// The place at which the line first fails to be one, or the first rule that the table breaks, by
+/// [`judge_table`](request_rules::judge_table); [`Refusal::OutOfMemory`] where there is no room for the table.
+pub fn schema_in(alloc: Global, line: &[u8]) -> Result<Schema, Refusal>
     requires { length line.now < 2 ^ 32 }
     ensures judged { Tells (IsTableJudged line.now) schema_of result }
     ensures few { IfOk result (λ schema. length schema.columns ≤ 64) }

@@ -16,7 +16,7 @@ pub struct Query {
 }
 
 /// The fault of a line, counted from 1.
-fn on_line(line: u64, refusal: Refusal) -> RequestFault
+pub fn on_line(line: u64, refusal: Refusal) -> RequestFault
     ensures { result ≡ on_line line refusal }
 {
     match refusal {

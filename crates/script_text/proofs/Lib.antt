@@ -2,8 +2,6 @@ mod Cuts
 mod Placed
 mod Places
 mod ShortLines
-mod LegalColumns
-mod LegalTables
 mod Stepped
 mod Read
 mod OneScript

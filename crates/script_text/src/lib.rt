@@ -8,7 +8,6 @@
 // the lines of the text, each by its form
 mod forms;
 mod placing;
-mod table;
 
 // what they make
 mod laws;

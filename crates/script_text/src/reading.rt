@@ -1,6 +1,5 @@
 //! The lines of a script, one after the other.
 ghost use Rattle.request_rules.specs.Views.{schema_of};
-ghost use Rattle.request_text.specs.Queries.{on_line};
 ghost use Rattle.script_text.specs.Answers.{AreSessions, AreViews, IsScriptAnswer, script_of};
 ghost use Rattle.script_text.specs.Scripts.{of_table};
 ghost use Rattle.script_text.specs.Taking.{IsJudgedAt, ReadsOn, Steps};
@@ -10,22 +9,12 @@ use crate::forms::read_form;
 use crate::placing::{is_blank, line_1, line_at};
 use crate::script::Script;
 use crate::steps::{Step, add_line};
-use crate::table::{no_form, schema_in};
 use agg_defs::{Schema, Views};
 use refusals::RequestFault;
 use request_rules::Refusal;
+use request_text::{no_form, on_line, schema_in};
 use std::alloc::Global;
 use value_lists::Seq;
-
-/// The fault of a line, counted from 1.
-fn on_line(line: u64, refusal: Refusal) -> RequestFault
-    ensures { result ≡ on_line line refusal }
-{
-    match refusal {
-        Refusal::Broken(why) => RequestFault::Bad { line, why },
-        Refusal::OutOfMemory => RequestFault::OutOfMemory,
-    }
-}
 
 /// The script of a table alone.
 fn of_table(alloc: Global, schema: Schema) -> Script
