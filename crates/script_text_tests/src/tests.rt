@@ -250,3 +250,13 @@ fn there_are_at_most_16_views(rt: HostRuntime) {
         b"TABLE x UInt8\nVIEW a SELECT count()\nVIEW b SELECT count()\nVIEW c SELECT count()\nVIEW d SELECT count()\nVIEW e SELECT count()\nVIEW f SELECT count()\nVIEW g SELECT count()\nVIEW h SELECT count()\nVIEW i SELECT count()\nVIEW j SELECT count()\nVIEW k SELECT count()\nVIEW l SELECT count()\nVIEW m SELECT count()\nVIEW n SELECT count()\nVIEW o SELECT count()\nVIEW p SELECT count()\nVIEW q SELECT count()\n";
     assert!(rt; is_refused(&rt, text, 18, Why::Limit(LimitName::Views)));
 }
+
+#[test]
+fn there_are_at_most_32_sessions(rt: HostRuntime) {
+    let most =
+        b"TABLE x UInt8\nSESSION 1\nSESSION 2\nSESSION 3\nSESSION 4\nSESSION 5\nSESSION 6\nSESSION 7\nSESSION 8\nSESSION 9\nSESSION 10\nSESSION 11\nSESSION 12\nSESSION 13\nSESSION 14\nSESSION 15\nSESSION 16\nSESSION 17\nSESSION 18\nSESSION 19\nSESSION 20\nSESSION 21\nSESSION 22\nSESSION 23\nSESSION 24\nSESSION 25\nSESSION 26\nSESSION 27\nSESSION 28\nSESSION 29\nSESSION 30\nSESSION 31\nSESSION 32\n";
+    assert!(rt; is_read(&rt, most, 0, 32));
+    let one_more =
+        b"TABLE x UInt8\nSESSION 1\nSESSION 2\nSESSION 3\nSESSION 4\nSESSION 5\nSESSION 6\nSESSION 7\nSESSION 8\nSESSION 9\nSESSION 10\nSESSION 11\nSESSION 12\nSESSION 13\nSESSION 14\nSESSION 15\nSESSION 16\nSESSION 17\nSESSION 18\nSESSION 19\nSESSION 20\nSESSION 21\nSESSION 22\nSESSION 23\nSESSION 24\nSESSION 25\nSESSION 26\nSESSION 27\nSESSION 28\nSESSION 29\nSESSION 30\nSESSION 31\nSESSION 32\nSESSION 33\n";
+    assert!(rt; is_refused(&rt, one_more, 34, Why::Limit(LimitName::Sessions)));
+}
