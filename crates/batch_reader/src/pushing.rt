@@ -5,10 +5,9 @@ ghost use Rattle.row_texts.specs.Rows.{AreReadable};
 ghost use Rattle.batch_reader.specs.Pushing.{PushesLine, PushesLines};
 
 use columns::Batch;
-use quick_rows::{Taken, take_row};
+use quick_rows::{Taken, first_line, take_row};
 use row_texts::{LineRefusal, judge_line};
 use std::alloc::Global;
-use tsv_text::first_line;
 use tsv_values::StateReader;
 use value_types::Ty;
 

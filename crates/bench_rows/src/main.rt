@@ -11,12 +11,11 @@ mod reading;
 
 use columns::{Args, Batch, Column, Item};
 use draws::text_of;
-use quick_rows::{Taken, take_row};
+use quick_rows::{Taken, first_line, take_row};
 use reading::rows_in;
 use std::alloc::Global;
 use std::time::Instant;
 use std::{env, io};
-use tsv_text::first_line;
 use value_types::{Boxed, OutOfMemory, Ty};
 
 const ROWS: u64 = 1_000_000;

@@ -1,4 +1,8 @@
 pub mod FieldLaws
+pub mod FirstLaws
+pub mod FrontDigits
+pub mod Fronts
+pub mod Lines
 pub mod ListLaws
 pub mod Numbers
 pub mod RowLaws

@@ -1,5 +1,5 @@
 -- A row that is taken field by field.
-use Rattle.std.proofs.Common.{◌≡◌, add-one, ℕ, suc, zero, ◌+◌, ◌≤◌, ◌<◌, true, List, [], ◌∷◌, ◌++◌, length, map, get_or, set, drop, Option, Some, None, Bor, MatchOption, ap, sym, subst, ◌∙◌, refl, arith}
+use Rattle.std.proofs.Common.{◌≡◌, add-one, ℕ, suc, zero, ◌+◌, ◌≤◌, ◌<◌, true, List, [], ◌∷◌, ◌++◌, length, map, get_or, set, drop, Option, Some, None, Bor, ap, sym, subst, ◌∙◌, refl, arith}
 use Rattle.std.specs.Prelude.{Ok}
 use Rattle.std.proofs.lemmas.List.{append_assoc, append-nil, length_push}
 use Rattle.value_types.specs.declared.ty.Ty.{Ty}
@@ -9,17 +9,16 @@ use Rattle.typed_columns.specs.TypedValues.{TypedValues}
 use Rattle.typed_columns.specs.Growth.{trim, with_value}
 use Rattle.columns.specs.Rows.{AreLong, RowFits, pushed}
 use Rattle.columns.proofs.Rows.{pushed_none, trimmed}
-use Rattle.quick_rows.specs.Taking.{AreSaid, FillsColumns, TakesField}
+use Rattle.quick_rows.specs.Taking.{AreSaid, FillsColumns, IsFirstField, TakesField}
 
 -- the fields of what is left of a line
 abbrev pub left_fields : Option (Bor (List ℕ)) → List (List ℕ)
 left_fields None = []
 left_fields (Some text) = fields_of text.now
 
-pub first_and_left : (line field : List ℕ) (after : Option (Bor (List ℕ))) → MatchOption after (fields_of line ≡ field ∷ []) (λ t. fields_of line ≡ field ∷ fields_of t.now) →
-    fields_of line ≡ field ∷ left_fields after
-first_and_left line field None h = h
-first_and_left line field (Some text) h = h
+pub field_and_left : (text field : List ℕ) (behind : Option (Bor (List ℕ))) → IsFirstField text field behind → fields_of text ≡ field ∷ left_fields behind
+field_and_left text field None h = h
+field_and_left text field (Some behind) h = h.0
 
 abbrev types_of : List TypedValues → List Ty
 types_of columns = map (λ c. c.ty) columns

@@ -1,5 +1,6 @@
 -- What it means that a field, and a line, was taken into columns.
-use Rattle.std.specs.Prelude.{◌≡◌, ◌==◌, ◌&&◌, ◌^◌, nat_lt, ℕ, length, Bool, true, false, not, List, [], ◌∷◌, ◌++◌, map, Result, Ok, Err}
+use denote.Ref.{Bor}
+use Rattle.std.specs.Prelude.{◌≡◌, ◌==◌, ◌&&◌, ◌^◌, ◌<◌, nat_lt, ℕ, length, Bool, true, false, not, List, [], ◌∷◌, ◌++◌, map, Option, None, Some, Result, Ok, Err}
 use Rattle.std.specs.List.{list_all, slice_split}
 use Rattle.value_lists.specs.declared.out_of_memory.OutOfMemory.{OutOfMemory}
 use Rattle.value_types.specs.Folds.{ty_of, value_of}
@@ -18,6 +19,8 @@ use Rattle.column_parts.specs.Cuts.{cuts}
 use Rattle.typed_columns.specs.TypedValues.{TypedValues}
 use Rattle.typed_columns.specs.Growth.{AllFit, Fits, trim, with_value, with_values}
 use Rattle.columns.specs.Rows.{Rows, RowFits, pushed, with_row}
+use Rattle.quick_rows.specs.declared.front.Front.{Front}
+use Rattle.quick_rows.specs.declared.front.Front.TheVariants as front
 use Rattle.quick_rows.specs.declared.row.Taken.{Taken}
 use Rattle.quick_rows.specs.declared.row.Taken.TheVariants.{Row, Irregular}
 
@@ -59,6 +62,17 @@ abbrev pub TakesText : List (List ℕ) → List ℕ → List (List ℕ) → Resu
 TakesText texts field after (Ok true) = (is_plain field ≡ true) × AreBytes field × (after ≡ texts ++ field ∷ [])
 TakesText texts field after (Ok false) = after ≡ texts
 TakesText texts field after (Err fault) = after ≡ texts
+
+-- the first field of a text, and what stands behind its tab, if it has one
+abbrev pub IsFirstField : List ℕ → List ℕ → Option (Bor (List ℕ)) → Type 0
+IsFirstField text field None = fields_of text ≡ field ∷ []
+IsFirstField text field (Some behind) = (fields_of text ≡ field ∷ fields_of behind.now) × (length behind.now < length text)
+
+-- the first field is taken, and what stands behind it is told, or nothing is taken
+abbrev pub TakesFirst : {Store : Type 0} → (Store → List ℕ → Store → Result Bool OutOfMemory → Type 0) → Store → List ℕ → Store → Result Front OutOfMemory → Type 0
+TakesFirst Takes store text after (Ok (front.Taken behind)) = (field : List ℕ) × IsFirstField text field behind × Takes store field after (Ok true)
+TakesFirst Takes store text after (Ok front.Irregular) = Takes store text after (Ok false)
+TakesFirst Takes store text after (Err fault) = Takes store text after (Err fault)
 
 -- neither a backslash nor a quote
 abbrev pub is_quotable : List ℕ → Bool

@@ -5,9 +5,12 @@
 #![tactic(auto)]
 
 mod field;
+mod front;
+mod line;
 mod list;
 mod number;
 mod quoted;
 mod row;
 
+pub use line::first_line;
 pub use row::{Taken, take_row};

@@ -1,7 +1,8 @@
 //! Numbers of plain digits, in one pass.
-ghost use Rattle.std.specs.Prelude.{◌≡◌, IfSome};
+ghost use Rattle.std.specs.Prelude.{◌≡◌, ◌++◌, IfSome, List, ℕ};
 ghost use Rattle.std.specs.Str.Parse.{digits_value};
-ghost use Rattle.field_texts.specs.Syntax.{IsDigits, IsNumber};
+ghost use Rattle.field_texts.specs.Syntax.{AreDigits, IsDigits, IsNumber};
+ghost use Rattle.quick_rows.specs.Taking.{IsFirstField};
 ghost use Rattle.scalar_texts.specs.Numbers.{number_value, signed, split_sign};
 
 // Ten times this and a digit have 64 bits.
@@ -16,6 +17,19 @@ pub(crate) fn plain_number(field: &[u8]) -> Option<i128>
     let (minus, digits) = split_sign(field);
     match plain_digits(digits) {
         Some(size) => Some(signed(minus, size)),
+        None => None,
+    }
+}
+
+/// The number that the first field writes as digits behind a sign or none, and what stands behind the field's tab, if it
+/// has one. `None` says nothing of the text.
+#[inline]
+pub(crate) fn first_number(text: &[u8]) -> Option<(i128, Option<&[u8]>)>
+    ensures { IfSome result (λ found. (field : List ℕ) × IsFirstField text.now field found.1 × IsNumber field × (number_value field ≡ found.0)) }
+{
+    let (minus, digits) = split_sign(text);
+    match first_digits(digits) {
+        Some((size, behind)) => Some((signed(minus, size), behind)),
         None => None,
     }
 }
@@ -59,4 +73,40 @@ fn plain_digits(digits: &[u8]) -> Option<u64>
         value = value * 10 + u64::from(*byte - b'0');
     }
     Some(value)
+}
+
+/// The same of a first field that is digits alone.
+#[inline]
+fn first_digits(text: &[u8]) -> Option<(u64, Option<&[u8]>)>
+    ensures { IfSome result (λ found. (field : List ℕ) × IsFirstField text.now field found.1 × IsDigits field × (digits_value 10 field ≡ found.0)) }
+{
+    let (value, left) = front_digits(text)?;
+    if left.len() == text.len() {
+        return None;
+    }
+    match left {
+        [] => Some((value, None)),
+        [b'\t', behind @ ..] => Some((value, Some(behind))),
+        _ => None,
+    }
+}
+
+/// The number that the digits at the front write, and what stands behind them. `None` says nothing of the text.
+#[inline]
+fn front_digits(text: &[u8]) -> Option<(u64, &[u8])>
+    ensures { IfSome result (λ found. (digits : List ℕ) × (text.now ≡ digits ++ found.1.now) × AreDigits digits × (digits_value 10 digits ≡ found.0)) }
+{
+    let mut value = 0u64;
+    let mut left = text;
+    while let [byte, after @ ..] = left {
+        if !byte.is_ascii_digit() {
+            break;
+        }
+        if value > MOST_TENS {
+            return None;
+        }
+        value = value * 10 + u64::from(*byte - b'0');
+        left = after;
+    }
+    Some((value, left))
 }

@@ -2,10 +2,9 @@
 ghost use Rattle.columns.specs.Rows.{AreLong};
 ghost use Rattle.quick_rows.specs.Taking.{FillsColumns, TakesRow};
 
-use crate::field::take_field;
+use crate::front::{Front, take_first};
 use columns::{Batch, trim_each};
 use std::alloc::Global;
-use tsv_text::first_field;
 use typed_columns::Column;
 use value_types::OutOfMemory;
 
@@ -65,13 +64,11 @@ fn fill(
         let Some(text) = left else {
             return Ok(false);
         };
-        let (field, after) = first_field(text);
-        match take_field(&mut columns[i], alloc, field) {
-            Ok(true) => {}
-            Ok(false) => return Ok(false),
+        match take_first(&mut columns[i], alloc, text) {
+            Ok(Front::Taken(behind)) => left = behind,
+            Ok(Front::Irregular) => return Ok(false),
             Err(error) => return Err(error),
         }
-        left = after;
     }
     match left {
         None => Ok(true),
