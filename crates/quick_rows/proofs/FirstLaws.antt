@@ -1,51 +1,36 @@
--- A first field that is taken into a store is taken into the column that has it.
-use Rattle.std.proofs.Common.{◌≡◌, ℕ, Bool, true, false, not, List, [], ◌∷◌, ap, refl, eqb, inl, inr, arith}
+-- A first field that is taken into a store is taken into the column that has it, and an element so too.
+use Rattle.std.proofs.Common.{◌≡◌, ℕ, Bool, true, false, List, [], ◌∷◌, ◌++◌, length, get_or, ◌≢◌, Option, None, Some, Bor}
 use Rattle.std.specs.Prelude.{Result, Ok, Err}
-use Rattle.std.proofs.lemmas.Bool.{and_parts}
-use Rattle.std.proofs.lemmas.Bool.Decides.{nat_tests}
 use Rattle.value_lists.specs.declared.out_of_memory.OutOfMemory.{OutOfMemory}
-use Rattle.field_texts.specs.Syntax.{IsNumber}
-use Rattle.scalar_texts.specs.Answer.{is_null}
-use Rattle.column_parts.specs.NumberLists.{NumberList}
-use Rattle.quick_rows.specs.Taking.{TakesField, TakesFirst, TakesNumber, TakesText, is_plain}
-use Rattle.quick_rows.specs.declared.front.Front.{Front}
-use Rattle.quick_rows.specs.declared.front.Front.TheVariants as front
-use Rattle.quick_rows.proofs.FieldLaws.{filled_field, numbers_filled, numbers_seen, texts_filled, texts_seen}
+use Rattle.typed_columns.specs.TypedValues.{TypedValues}
+use Rattle.quick_rows.specs.Taking.{TakesField, TakesFilled, TakesFirst, TakesFront}
+use Rattle.quick_rows.specs.declared.field.Front.{Front}
+use Rattle.quick_rows.specs.declared.field.Front.TheVariants as front
+use Rattle.quick_rows.proofs.FieldLaws.{filled_field, nullable, some_taken}
+use Rattle.quick_rows.proofs.Fronts.{some_field}
 
--- neither a number nor a text without a backslash is `\N`
-not_slash : (b c : ℕ) → eqb b 92 ≡ false → is_null (b ∷ c ∷ []) ≡ false
-not_slash b c h = rw h refl
+-- what is taken into one is taken into the other, for each field
+pub first_by : {One Other : Type 0} (P : One → List ℕ → One → Result Bool OutOfMemory → Type 0) (Q : Other → List ℕ → Other → Result Bool OutOfMemory → Type 0) (seen : One → Other) (old new : One) →
+    ((field : List ℕ) (r : Result Bool OutOfMemory) → P old field new r → Q (seen old) field (seen new) r) → (text : List ℕ) (r : Result Front OutOfMemory) → TakesFirst P old text new r →
+    TakesFirst Q (seen old) text (seen new) r
+first_by P Q seen old new f text (Ok (front.Taken behind)) h = (h.0, h.1, f h.0 (Ok true) h.2)
+first_by P Q seen old new f text (Ok front.Irregular) h = f text (Ok false) h
+first_by P Q seen old new f text (Err fault) h = f text (Err fault) h
 
-number_some : (field : List ℕ) → IsNumber field → is_null field ≡ false
-number_some [] h = refl
-number_some (b ∷ []) h = refl
-number_some (b ∷ c ∷ []) (inl h) = not_slash b c (grind (arith, nat_tests))
-number_some (b ∷ c ∷ []) (inr (inl h, digits)) = not_slash b c (grind (arith, nat_tests))
-number_some (b ∷ c ∷ []) (inr (inr h, digits)) = not_slash b c (grind (arith, nat_tests))
-number_some (b ∷ c ∷ d ∷ field) h = refl
+pub front_by : {One Other : Type 0} (P : One → List ℕ → One → Result Bool OutOfMemory → Type 0) (Q : Other → List ℕ → Other → Result Bool OutOfMemory → Type 0) (seen : One → Other) (old new : One) →
+    ((part : List ℕ) (r : Result Bool OutOfMemory) → P old part new r → Q (seen old) part (seen new) r) → (text : List ℕ) (r : Result (Option (Bor (List ℕ))) OutOfMemory) → TakesFront P old text new r →
+    TakesFront Q (seen old) text (seen new) r
+front_by P Q seen old new f text (Ok (Some behind)) h = (h.0, h.1, f h.0 (Ok true) h.2)
+front_by P Q seen old new f text (Ok None) h = f text (Ok false) h
+front_by P Q seen old new f text (Err fault) h = f text (Err fault) h
 
-not_so : (b : Bool) → not b ≡ true → b ≡ false
-not_so true h = cc
-not_so false h = refl
+-- a field that begins with no backslash isn't `\N`
+pub filled_first : (old new : TypedValues) (text : List ℕ) (r : Result Front OutOfMemory) → get_or text 0 0 ≢ 92 → TakesFirst TakesFilled old text new r → TakesFirst TakesField old text new r
+filled_first old new text (Ok (front.Taken behind)) other h = (h.0, h.1, filled_field old new h.0 (Ok true) (some_field text h.0 behind other h.1) h.2)
+filled_first old new text (Ok front.Irregular) other h = h
+filled_first old new text (Err fault) other h = h
 
-plain_some : (field : List ℕ) → is_plain field ≡ true → is_null field ≡ false
-plain_some [] h = refl
-plain_some (b ∷ []) h = refl
-plain_some (b ∷ c ∷ []) h = not_slash b c (not_so (eqb b 92) (and_parts (not (eqb b 92)) (is_plain (c ∷ [])) h).0)
-plain_some (b ∷ c ∷ d ∷ field) h = refl
-
-pub first_numbers : (old new : NumberList) (text : List ℕ) (r : Result Front OutOfMemory) → TakesFirst TakesNumber old text new r →
-    TakesFirst TakesField (numbers_seen old) text (numbers_seen new) r
-first_numbers old new text (Ok (front.Taken behind)) h =
-    let field = h.0 in
-    (field, h.1, filled_field (numbers_seen old) (numbers_seen new) field (Ok true) (number_some field h.2.0) (numbers_filled old new field (Ok true) h.2))
-first_numbers old new text (Ok front.Irregular) h = ap numbers_seen h
-first_numbers old new text (Err fault) h = ap numbers_seen h
-
-pub first_texts : (old new : List (List ℕ)) (text : List ℕ) (r : Result Front OutOfMemory) → TakesFirst TakesText old text new r →
-    TakesFirst TakesField (texts_seen old) text (texts_seen new) r
-first_texts old new text (Ok (front.Taken behind)) h =
-    let field = h.0 in
-    (field, h.1, filled_field (texts_seen old) (texts_seen new) field (Ok true) (plain_some field h.2.0) (texts_filled old new field (Ok true) h.2))
-first_texts old new text (Ok front.Irregular) h = ap texts_seen h
-first_texts old new text (Err fault) h = ap texts_seen h
+-- a value in a column that may hold NULL
+pub some_first : (mask after : List Bool) (old new : TypedValues) (text : List ℕ) (behind : Option (Bor (List ℕ))) → length mask ≡ length old.values → after ≡ mask ++ false ∷ [] →
+    TakesFirst TakesFilled old text new (Ok (front.Taken behind)) → TakesFirst TakesFilled (nullable mask old) text (nullable after new) (Ok (front.Taken behind))
+some_first mask after old new text behind alike marked h = (h.0, h.1, some_taken mask after old new h.0 alike marked h.2)

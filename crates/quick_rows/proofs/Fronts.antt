@@ -1,12 +1,20 @@
 -- The front of a text up to a byte that ends it.
-use Rattle.std.proofs.Common.{◌≡◌, add-one, ℕ, zero, suc, ◌+◌, ◌<◌, ◌≤◌, Bool, true, false, not, ◌||◌, List, [], ◌∷◌, ◌++◌, length, take, drop, get_or, cond, eqb, Option, None, Some, Bor, MatchOption, nat_lt, ◌^◌, refl, sym, ap, ◌∙◌, arith, length-append}
+use Rattle.std.proofs.Common.{◌≡◌, add-one, ℕ, zero, suc, ◌+◌, ◌-◌, ◌<◌, ◌≤◌, ◌≢◌, Bool, true, false, not, ◌||◌, ◌&&◌, List, [], ◌∷◌, ◌++◌, length, take, drop, get_or, cond, eqb, Option, None, Some, Bor, IfSome, nat_lt, ◌^◌, refl, sym, ap, subst, ◌∙◌, arith, append_assoc, length-append}
 use Rattle.std.specs.List.{list_all, slice_split, onto_first, position, position_or_len}
 use Rattle.std.specs.Cmp.Derive.{both_true}
 use Rattle.std.proofs.lemmas.Bool.{and_parts, ltb-false}
+use Rattle.std.proofs.lemmas.Bool.Decides.{nat_tests}
+use Rattle.std.proofs.lemmas.Grind.{common_steps}
+use Rattle.std.proofs.lemmas.List.Folds.{list_all-append}
+use Rattle.std.proofs.lemmas.List.{append-nil}
 use Rattle.std.proofs.lemmas.List.Quantifiers.{position-Some}
 use Rattle.std.proofs.lemmas.List.Splits.{slice_split-cons_no, slice_split-cons_yes}
 use Rattle.tsv_text.specs.Lines.{fields_of, is_tab}
-use Rattle.quick_rows.specs.Taking.{AreBytes, IsFirstField, is_plain}
+use Rattle.scalar_texts.specs.Answer.{is_null}
+use Rattle.quick_rows.specs.Taking.{AreBytes, EndsField, IsFirstField, IsPart, is_bare, is_plain, is_quotable}
+
+abbrev pub is_comma : ℕ → Bool
+is_comma b = eqb b 44
 
 -- no byte passes
 abbrev pub Fails : (ℕ → Bool) → List ℕ → Type 0
@@ -36,11 +44,33 @@ pub field_alone : (text field : List ℕ) → Fails is_tab field → text ≡ fi
 unfolding fields_of
 field_alone text field plain is = ap fields_of is ∙ split-whole is_tab field plain
 
--- one byte more that is no tab
-pub field_after : (b : ℕ) (text field : List ℕ) (behind : Option (Bor (List ℕ))) → is_tab b ≡ false → IsFirstField text field behind → IsFirstField (b ∷ text) (b ∷ field) behind
-unfolding fields_of
-field_after b text field None other h = slice_split-cons_no is_tab b text other ∙ ap (onto_first b) h
-field_after b text field (Some behind) other h = (slice_split-cons_no is_tab b text other ∙ ap (onto_first b) h.0, omega (arith, h.1))
+-- a front without a tab that a tab or the text ends
+pub first_by_end : (text field left : List ℕ) (behind : Option (Bor (List ℕ))) → Fails is_tab field → text ≡ field ++ left → EndsField left behind → IsFirstField text field behind
+first_by_end text field left None plain split ends = field_alone text field plain (split ∙ ap (λ t. field ++ t) ends ∙ append-nil field)
+first_by_end text field left (Some behind) plain split ends = field_then_tab text field behind.now plain (split ∙ ap (λ t. field ++ t) ends)
+
+-- neither a comma nor a tab
+abbrev pub keeps_on : ℕ → Bool
+keeps_on b = not (eqb b 44) && not (eqb b 9)
+
+not_so : (b : Bool) → not b ≡ true → b ≡ false
+not_so true h = cc
+not_so false h = refl
+
+pub kept_fails : (xs : List ℕ) → list_all keeps_on xs ≡ true → Fails is_comma xs × Fails is_tab xs
+kept_fails [] h = (tt, tt)
+kept_fails (x ∷ xs) h =
+    let all = and_parts (keeps_on x) (list_all keeps_on xs) h in
+    let here = and_parts (not (eqb x 44)) (not (eqb x 9)) all.0 in
+    let more = kept_fails xs all.1 in
+    ((not_so (eqb x 44) here.0, more.0), (not_so (eqb x 9) here.1, more.1))
+
+pub part_field : (text part left : List ℕ) (behind : Option (Bor (List ℕ))) → IsPart text part left → EndsField left behind → IsFirstField text part behind
+part_field text part left behind h ends = first_by_end text part left behind (kept_fails part h.2).1 h.0 ends
+
+pub Fails-append : (p : ℕ → Bool) (xs ys : List ℕ) → Fails p xs → Fails p ys → Fails p (xs ++ ys)
+Fails-append p [] ys f g = g
+Fails-append p (x ∷ xs) ys f g = (f.0, Fails-append p xs ys f.1 g)
 
 -- what stands before the first byte that passes
 pub fails_by : (p : ℕ → Bool) (xs : List ℕ) (i : ℕ) → i ≤ length xs → ((k : ℕ) → k < i → p (get_or xs k 0) ≡ false) → Fails p (take i xs)
@@ -70,12 +100,6 @@ nowhere false x e = refl
 
 pub fails_everywhere : (p : ℕ → Bool) (xs : List ℕ) → position p xs ≡ None → Fails p xs
 fails_everywhere p xs found = fails_all p xs (ltb-false _ _ (nowhere (nat_lt (position_or_len p xs) (length xs)) (position_or_len p xs) found))
-
--- a field that was searched by its end
-pub found_first : (text field : List ℕ) (behind : Option (Bor (List ℕ))) → MatchOption behind (fields_of text ≡ field ∷ []) (λ t. fields_of text ≡ field ∷ fields_of t.now)
-    → MatchOption behind (Unit {0}) (λ t. length t.now < length text) → IsFirstField text field behind
-found_first text field None fields shorter = fields
-found_first text field (Some behind) fields shorter = (fields, shorter)
 
 -- neither a tab nor a backslash
 either_false : (a b : Bool) → (a || b) ≡ false → (a ≡ false) × (b ≡ false)
@@ -109,3 +133,90 @@ pub bytes-take : (text : List ℕ) (n : ℕ) → AreBytes text → AreBytes (tak
 bytes-take text zero h = refl
 bytes-take [] (suc n) h = refl
 bytes-take (b ∷ text) (suc n) h = let both = and_parts (nat_lt b (2 ^ 8)) (list_all (λ b. nat_lt b (2 ^ 8)) text) h in both_true both.0 (bytes-take text n both.1)
+
+-- neither a quote nor a backslash, a comma or a tab
+abbrev pub ends_bare : ℕ → Bool
+ends_bare b = eqb b 39 || eqb b 92 || eqb b 44 || eqb b 9
+
+none_of : (a b c d : Bool) → (a || b || c || d) ≡ false → (not a && not b && not c && not d) ≡ true
+none_of true b c d e = cc
+none_of false true c d e = cc
+none_of false false true d e = cc
+none_of false false false true e = cc
+none_of false false false false e = refl
+
+bare_fails : (xs : List ℕ) → Fails ends_bare xs → is_bare xs ≡ true
+bare_fails [] h = refl
+bare_fails (x ∷ xs) h = both_true (none_of (eqb x 39) (eqb x 92) (eqb x 44) (eqb x 9) h.0) (bare_fails xs h.1)
+
+pub bare_then_quote : (text inside after : List ℕ) (at : ℕ) → text ≡ 39 ∷ inside → position ends_bare inside ≡ Some at → get_or inside at 0 ≡ 39 → after ≡ drop (at + 1) inside →
+    (text ≡ 39 ∷ (take at inside ++ 39 ∷ after)) × (is_bare (take at inside) ≡ true)
+bare_then_quote text inside after at opens found quote rest =
+    let first = position-Some ends_bare inside at 0 found in (
+      opens ∙ ap (λ t. 39 ∷ t) (split_here inside at first.0 ∙ (λ i. take at inside ++ (quote i ∷ sym rest i))),
+      bare_fails (take at inside) (fails_by ends_bare inside at (omega (arith, first.0)) first.2),
+    )
+
+pub bytes-behind : (b : ℕ) (text inside : List ℕ) → text ≡ b ∷ inside → AreBytes text → AreBytes inside
+bytes-behind b text inside is h = (and_parts (nat_lt b (2 ^ 8)) (list_all (λ b. nat_lt b (2 ^ 8)) inside) (subst AreBytes is h)).1
+
+bare_byte : (a b c d : Bool) → (not a && not b && not c && not d) ≡ true → ((not b && not a) ≡ true) × ((not c && not d) ≡ true)
+bare_byte true b c d e = cc
+bare_byte false true c d e = cc
+bare_byte false false true d e = cc
+bare_byte false false false true e = cc
+bare_byte false false false false e = (refl, refl)
+
+bare_parts : (xs : List ℕ) → is_bare xs ≡ true → (is_quotable xs ≡ true) × (list_all keeps_on xs ≡ true)
+bare_parts [] h = (refl, refl)
+bare_parts (x ∷ xs) h =
+    let all = and_parts (not (eqb x 39) && not (eqb x 92) && not (eqb x 44) && not (eqb x 9)) (is_bare xs) h in
+    let here = bare_byte (eqb x 39) (eqb x 92) (eqb x 44) (eqb x 9) all.0 in
+    let more = bare_parts xs all.1 in
+    (both_true here.0 more.0, both_true here.1 more.1)
+
+pub quoted_part : (text bytes left : List ℕ) → text ≡ 39 ∷ (bytes ++ 39 ∷ left) → is_bare bytes ≡ true →
+    IsPart text (39 ∷ (bytes ++ 39 ∷ [])) left × (is_quotable bytes ≡ true)
+quoted_part text bytes left is bare =
+    let parts = bare_parts bytes bare in (
+      (is ∙ ap (λ t. 39 ∷ t) (sym (append_assoc bytes (39 ∷ []) left)), omega arith, both_true refl (list_all-append keeps_on bytes (39 ∷ []) ∙ both_true parts.1 refl)),
+      parts.0,
+    )
+
+-- a pattern of one byte, or of two, and what is left
+pub front_one : (text : List ℕ) (b : ℕ) → 0 < length text → get_or text 0 0 ≡ b → text ≡ b ∷ take (length text - 1) (drop 1 text)
+front_one [] b some here = absurd (omega arith)
+front_one (x ∷ text) b some here = let whole : take (length (x ∷ text) - 1) text ≡ text = grind (arith, common_steps) in rw whole (ap (λ y. y ∷ text) here)
+
+pub front_two : (text : List ℕ) (b c : ℕ) → 1 < length text → get_or text 0 0 ≡ b → get_or text 1 0 ≡ c → text ≡ b ∷ c ∷ take (length text - 2) (drop 2 text)
+front_two [] b c some here next = absurd (omega arith)
+front_two (x ∷ []) b c some here next = absurd (omega arith)
+front_two (x ∷ y ∷ text) b c some here next =
+    let whole : take (length (x ∷ y ∷ text) - 2) text ≡ text = grind (arith, common_steps) in
+    rw whole (λ i. here i ∷ next i ∷ text)
+
+-- where the first byte is no backslash, the first field isn't `\N`
+head_is : (x : ℕ) (tab : Bool) (parts : List (List ℕ)) (b c : ℕ) (rest : List (List ℕ)) → cond tab ([] ∷ parts) (onto_first x parts) ≡ (b ∷ c ∷ []) ∷ rest → b ≡ x
+head_is x true parts b c rest e = cc
+head_is x false [] b c rest e = cc
+head_is x false (part ∷ parts) b c rest e = cc
+
+null_field : (text field : List ℕ) (rest : List (List ℕ)) → get_or text 0 0 ≢ 92 → slice_split is_tab text ≡ field ∷ rest → is_null field ≡ false
+null_field text [] rest other is = refl
+null_field text (b ∷ []) rest other is = refl
+null_field text (b ∷ c ∷ d ∷ field) rest other is = refl
+null_field [] (b ∷ c ∷ []) rest other is = cc
+null_field (x ∷ text) (b ∷ c ∷ []) rest other is =
+    let same = head_is x (is_tab x) (slice_split is_tab text) b c rest is in
+    let no : eqb b 92 ≡ false = grind (arith, nat_tests) in
+    rw no refl
+
+pub some_field : (text field : List ℕ) (behind : Option (Bor (List ℕ))) → get_or text 0 0 ≢ 92 → IsFirstField text field behind → is_null field ≡ false
+unfolding fields_of
+some_field text field None other h = null_field text field [] other h
+some_field text field (Some behind) other h = null_field text field (slice_split is_tab behind.now) other h.0
+
+pub null_first : (text left : List ℕ) (found : Option (Option (Bor (List ℕ)))) → text ≡ 92 ∷ 78 ∷ left → IfSome found (λ behind. EndsField left behind) →
+    IfSome found (λ behind. IsFirstField text (92 ∷ 78 ∷ []) behind)
+null_first text left None is h = tt
+null_first text left (Some behind) is h = first_by_end text (92 ∷ 78 ∷ []) left behind (refl, (refl, tt)) is h

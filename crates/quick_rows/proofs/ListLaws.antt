@@ -1,5 +1,5 @@
 -- An array that is taken element by element.
-use Rattle.std.proofs.Common.{◌≡◌, ℕ, suc, ◌+◌, ◌≤◌, ◌<◌, Bool, true, false, not, ◌&&◌, List, [], ◌∷◌, ◌++◌, length, map, ap, sym, subst, ◌∙◌, refl, arith, Option, Some, None, Bor, MatchOption, eqb, length-append}
+use Rattle.std.proofs.Common.{◌≡◌, ℕ, ◌+◌, ◌≤◌, ◌<◌, Bool, true, false, not, ◌&&◌, List, [], ◌∷◌, ◌++◌, length, map, ap, sym, subst, ◌∙◌, refl, arith, Option, Bor, eqb, length-append}
 use Rattle.std.specs.Prelude.{Result, Ok, Err}
 use Rattle.std.specs.List.{join_with_byte, list_all, slice_split}
 use Rattle.std.proofs.lemmas.Bool.{and_parts, eqb-false}
@@ -18,6 +18,7 @@ use Rattle.value_types.specs.declared.ty.Ty.TheVariants as ty
 use Rattle.value_types.specs.declared.value.Value.{Value}
 use Rattle.value_types.specs.declared.value.Value.TheVariants as value
 use Rattle.value_types.proofs.FoldLaws.{ty_of-Arr, ty_of-Str, value_of-Bytes, value_of-List}
+use Rattle.tsv_text.specs.Lines.{is_tab}
 use Rattle.tsv_text.specs.Escapes.{plain, pieces_bytes, pieces_then}
 use Rattle.field_texts.specs.Syntax.{AllFitInQuotes, Token}
 use Rattle.scalar_texts.specs.Numbers.{number_value}
@@ -30,8 +31,9 @@ use Rattle.typed_columns.specs.TypedValues.{TypedValues}
 use Rattle.typed_columns.specs.Growth.{AllFit, Fits, trim, with_value, with_values}
 use Rattle.tsv_values.specs.Answer.{IsFilledAnswer}
 use Rattle.tsv_values.specs.Elements.{ElementSays, OpenedSay, Spaced, all_of, onto}
-use Rattle.quick_rows.specs.Taking.{AreElements, IsArrayText, SaysElement, SaysFilled, TakesElement, TakesElements, TakesFilled, TakesNumber, TakesParts, TakesQuoted, is_quotable, lists_seen, parts_of}
+use Rattle.quick_rows.specs.Taking.{AreElements, EndsField, IsArrayText, IsFirstField, IsPart, SaysElement, SaysFilled, TakesElement, TakesElements, TakesFilled, TakesNumber, TakesQuoted, is_quotable, lists_seen, parts_of}
 use Rattle.quick_rows.proofs.FieldLaws.{numbers_seen, text_fits, texts_seen}
+use Rattle.quick_rows.proofs.Fronts.{Fails, Fails-append, first_by_end, is_comma, kept_fails, split-front, split-whole}
 use Rattle.quick_rows.proofs.Numbers.{number_element, number_fits}
 
 -- elements of a number type, and strings in quotes
@@ -76,63 +78,99 @@ texts_element old new part (Ok true) h = (
 texts_element old new part (Ok false) h = ap texts_seen h
 texts_element old new part (Err fault) h = ap texts_seen h
 
--- the parts so far
-abbrev pub left_parts : Option (Bor (List ℕ)) → List (List ℕ)
-left_parts None = []
-left_parts (Some text) = slice_split (λ b. eqb b 44) text.now
-
--- how long what is left is
-abbrev pub left_length : Option (Bor (List ℕ)) → ℕ
-left_length None = 0
-left_length (Some text) = suc (length text.now)
-
-pub part_and_left : (text part : List ℕ) (after : Option (Bor (List ℕ))) →
-    MatchOption after (slice_split (λ b. eqb b 44) text ≡ part ∷ []) (λ t. slice_split (λ b. eqb b 44) text ≡ part ∷ slice_split (λ b. eqb b 44) t.now) →
-    slice_split (λ b. eqb b 44) text ≡ part ∷ left_parts after
-part_and_left text part None h = h
-part_and_left text part (Some rest) h = h
-
-pub record Listed (old now : TypedValues) (parts : List (List ℕ)) (left : Option (Bor (List ℕ))) : Type 0 where
+-- the text so far, and the values of its elements
+pub record Listed (old now : TypedValues) (inside left : List ℕ) : Type 0 where
+  pub front : List ℕ
+  pub whole : inside ≡ front ++ left
+  pub plain : Fails is_tab front
   pub values : List Value
   pub fit : AllFit old.ty values
   pub stand : now ≡ with_values old values
-  pub rest : (tail : List Value) → AreElements old.ty (left_parts left) tail → AreElements old.ty parts (values ++ tail)
+  pub rest : (text : List ℕ) (tail : List Value) → AreElements old.ty (slice_split is_comma text) tail → AreElements old.ty (slice_split is_comma (front ++ text)) (values ++ tail)
 
-some_parts : (text : List ℕ) → 0 < length text → slice_split (λ b. eqb b 44) text ≡ parts_of text
-some_parts [] h = absurd (omega arith)
-some_parts (b ∷ text) h = refl
-
-pub listed_none : (old : TypedValues) (inside : Bor (List ℕ)) → 0 < length inside.now → Listed old old (parts_of inside.now) (Some inside)
-listed_none old inside some = record {
+pub listed_none : (old : TypedValues) (inside : List ℕ) → Listed old old inside inside
+listed_none old inside = record {
+  front = [];
+  whole = refl;
+  plain = tt;
   values = [];
   fit = refl;
   stand = sym (λ i. record { ty = old.ty; values = append-nil old.values i });
-  rest = λ tail h. subst (λ ps. AreElements old.ty ps tail) (some_parts inside.now some) h;
+  rest = λ text tail h. h;
 }
 
-pub listed_more : (old now next : TypedValues) (parts : List (List ℕ)) (left after : Option (Bor (List ℕ))) (text part : List ℕ) → Listed old now parts left →
-    left_parts left ≡ slice_split (λ b. eqb b 44) text → slice_split (λ b. eqb b 44) text ≡ part ∷ left_parts after → TakesElement now part next (Ok true) → Listed old next parts after
-listed_more old now next parts left after text part f here split taken =
+-- one element more
+fit_more : (old now next : TypedValues) (inside left part : List ℕ) (f : Listed old now inside left) (taken : TakesElement now part next (Ok true)) →
+    AllFit old.ty (f.values ++ taken.0 ∷ []) × SaysElement old.ty part taken.0 × (next ≡ with_values old (f.values ++ taken.0 ∷ []))
+fit_more old now next inside left part f taken =
     let v = taken.0 in
-    let same : now.ty ≡ old.ty = ap (λ c. c.ty) f.stand in record {
+    let same : now.ty ≡ old.ty = ap (λ c. c.ty) f.stand in (
+      list_all-append _ f.values (v ∷ []) ∙ both_true f.fit (both_true (subst (λ t. Fits t v) same taken.1) refl),
+      subst (λ t. SaysElement t part v) same taken.2,
+      taken.3 ∙ ap (λ c. with_value c v) f.stand ∙ (λ i. record { ty = old.ty; values = append_assoc old.values f.values (v ∷ []) i }),
+    )
+
+-- an element, and a comma
+pub listed_more : (old now next : TypedValues) (inside left part behind after : List ℕ) → Listed old now inside left → IsPart left part behind → behind ≡ 44 ∷ after →
+    TakesElement now part next (Ok true) → Listed old next inside after
+listed_more old now next inside left part behind after f cut comma taken =
+    let v = taken.0 in
+    let more = fit_more old now next inside left part f taken in
+    let plain = kept_fails part cut.2 in
+    let bytes = part ++ 44 ∷ [] in record {
+      front = f.front ++ bytes;
+      whole = f.whole ∙ ap (λ t. f.front ++ t) (cut.0 ∙ ap (λ t. part ++ t) comma ∙ sym (append_assoc part (44 ∷ []) after)) ∙ sym (append_assoc f.front bytes after);
+      plain = Fails-append is_tab f.front bytes f.plain (Fails-append is_tab part (44 ∷ []) plain.1 (refl, tt));
       values = f.values ++ v ∷ [];
-      fit = list_all-append _ f.values (v ∷ []) ∙ both_true f.fit (both_true (subst (λ t. Fits t v) same taken.1) refl);
-      stand = taken.3 ∙ ap (λ c. with_value c v) f.stand ∙ (λ i. record { ty = old.ty; values = append_assoc old.values f.values (v ∷ []) i });
-      rest = λ tail g.
-          subst (AreElements old.ty parts) (sym (append_assoc f.values (v ∷ []) tail))
-          (f.rest (v ∷ tail) (subst (λ ps. AreElements old.ty ps (v ∷ tail)) (sym (here ∙ split)) (subst (λ t. SaysElement t part v) same taken.2, g)));
+      fit = more.0;
+      stand = more.2;
+      rest = λ text tail h.
+          let here = append_assoc f.front bytes text ∙ ap (λ t. f.front ++ t) (append_assoc part (44 ∷ []) text) in
+          subst (λ t. AreElements old.ty (slice_split is_comma t) ((f.values ++ v ∷ []) ++ tail)) (sym here)
+          (subst (AreElements old.ty (slice_split is_comma (f.front ++ (part ++ 44 ∷ text)))) (sym (append_assoc f.values (v ∷ []) tail))
+          (f.rest (part ++ 44 ∷ text) (v ∷ tail)
+          (subst (λ ps. AreElements old.ty ps (v ∷ tail)) (sym (split-front is_comma part 44 text plain.0 refl)) (more.1, h))));
     }
 
-pub listed_all : (old now : TypedValues) (parts : List (List ℕ)) (left : Option (Bor (List ℕ))) → Listed old now parts left → left ≡ None → TakesParts old parts now (Ok true)
-listed_all old now parts left f none =
-    (f.values, f.fit, subst (AreElements old.ty parts) (append-nil f.values) (f.rest [] (subst (λ o. AreElements old.ty (left_parts o) []) (sym none) tt)), f.stand)
+some_parts : (text : List ℕ) → 0 < length text → slice_split is_comma text ≡ parts_of text
+some_parts [] h = absurd (omega arith)
+some_parts (b ∷ text) h = refl
 
-pub none_of : {A : Type 0} (o : Option A) → ((x : A) → o ≡ Some x → ⊥) → o ≡ None
-none_of None h = refl
-none_of (Some x) h = absurd (h x refl)
+-- the last element, and the closing bracket
+pub listed_all : (old now next : TypedValues) (inside left part behind after : List ℕ) (ends : Option (Bor (List ℕ))) → Listed old now inside left → IsPart left part behind → behind ≡ 93 ∷ after →
+    TakesElement now part next (Ok true) → EndsField after ends → (field : List ℕ) × IsFirstField (91 ∷ inside) field ends × TakesElements old field next (Ok true)
+listed_all old now next inside left part behind after ends f cut bracket taken h =
+    let v = taken.0 in
+    let more = fit_more old now next inside left part f taken in
+    let plain = kept_fails part cut.2 in
+    let text = f.front ++ part in
+    let field = 91 ∷ (text ++ 93 ∷ []) in
+    let whole : 91 ∷ inside ≡ field ++ after =
+    ap (λ t. 91 ∷ t)
+    (f.whole ∙ ap (λ t. f.front ++ t) (cut.0 ∙ ap (λ t. part ++ t) bracket) ∙ sym (append_assoc f.front part (93 ∷ after)) ∙ sym (append_assoc text (93 ∷ []) after)) in
+    let no_tab = Fails-append is_tab text (93 ∷ []) (Fails-append is_tab f.front part f.plain plain.1) (refl, tt) in
+    let said = f.rest part (v ∷ []) (subst (λ ps. AreElements old.ty ps (v ∷ [])) (sym (split-whole is_comma part plain.0)) (more.1, tt)) in (
+      field,
+      first_by_end (91 ∷ inside) field after ends (refl, no_tab) whole h,
+      (
+        f.values ++ v ∷ [],
+        more.0,
+        (text, refl, subst (λ ps. AreElements old.ty ps (f.values ++ v ∷ [])) (some_parts text (omega (arith, cut.1, length-append f.front part))) said),
+        more.2,
+      ),
+    )
 
-pub unlisted : (old now : TypedValues) (parts : List (List ℕ)) (left : Option (Bor (List ℕ))) → Listed old now parts left → trim (length old.values) now ≡ old
-unlisted old now parts left f = ap (trim (length old.values)) f.stand ∙ (λ i. record { ty = old.ty; values = take_at old.values f.values (length old.values) refl i })
+-- an array without elements
+pub listed_empty : (old : TypedValues) (text left : List ℕ) (ends : Option (Bor (List ℕ))) → text ≡ 91 ∷ 93 ∷ left → EndsField left ends →
+    (field : List ℕ) × IsFirstField text field ends × TakesElements old field old (Ok true)
+listed_empty old text left ends is h = (
+  91 ∷ 93 ∷ [],
+  first_by_end text (91 ∷ 93 ∷ []) left ends (refl, (refl, tt)) is h,
+  ([], refl, ([], refl, tt), sym (λ i. record { ty = old.ty; values = append-nil old.values i })),
+)
+
+pub unlisted : (old now : TypedValues) (inside left : List ℕ) → Listed old now inside left → trim (length old.values) now ≡ old
+unlisted old now inside left f = ap (trim (length old.values)) f.stand ∙ (λ i. record { ty = old.ty; values = take_at old.values f.values (length old.values) refl i })
 
 pub untaken : (old now : TypedValues) → now ≡ old → trim (length old.values) now ≡ old
 untaken old now same = ap (trim (length old.values)) same ∙ (λ i. record { ty = old.ty; values = take_all (length old.values) old.values (omega arith) i })

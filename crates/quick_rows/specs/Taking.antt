@@ -19,8 +19,8 @@ use Rattle.column_parts.specs.Cuts.{cuts}
 use Rattle.typed_columns.specs.TypedValues.{TypedValues}
 use Rattle.typed_columns.specs.Growth.{AllFit, Fits, trim, with_value, with_values}
 use Rattle.columns.specs.Rows.{Rows, RowFits, pushed, with_row}
-use Rattle.quick_rows.specs.declared.front.Front.{Front}
-use Rattle.quick_rows.specs.declared.front.Front.TheVariants as front
+use Rattle.quick_rows.specs.declared.field.Front.{Front}
+use Rattle.quick_rows.specs.declared.field.Front.TheVariants as front
 use Rattle.quick_rows.specs.declared.row.Taken.{Taken}
 use Rattle.quick_rows.specs.declared.row.Taken.TheVariants.{Row, Irregular}
 
@@ -63,12 +63,17 @@ TakesText texts field after (Ok true) = (is_plain field ≡ true) × AreBytes fi
 TakesText texts field after (Ok false) = after ≡ texts
 TakesText texts field after (Err fault) = after ≡ texts
 
+-- nothing follows a field, or a tab and what stands behind it
+abbrev pub EndsField : List ℕ → Option (Bor (List ℕ)) → Type 0
+EndsField left None = left ≡ []
+EndsField left (Some behind) = left ≡ 9 ∷ behind.now
+
 -- the first field of a text, and what stands behind its tab, if it has one
 abbrev pub IsFirstField : List ℕ → List ℕ → Option (Bor (List ℕ)) → Type 0
 IsFirstField text field None = fields_of text ≡ field ∷ []
 IsFirstField text field (Some behind) = (fields_of text ≡ field ∷ fields_of behind.now) × (length behind.now < length text)
 
--- the first field is taken, and what stands behind it is told, or nothing is taken
+-- the first field is taken, and what stands behind its tab is told, or nothing is taken
 abbrev pub TakesFirst : {Store : Type 0} → (Store → List ℕ → Store → Result Bool OutOfMemory → Type 0) → Store → List ℕ → Store → Result Front OutOfMemory → Type 0
 TakesFirst Takes store text after (Ok (front.Taken behind)) = (field : List ℕ) × IsFirstField text field behind × Takes store field after (Ok true)
 TakesFirst Takes store text after (Ok front.Irregular) = Takes store text after (Ok false)
@@ -84,6 +89,20 @@ TakesQuoted texts part after (Ok true) =
     (text : List ℕ) × (part ≡ 39 ∷ (text ++ 39 ∷ [])) × (is_quotable text ≡ true) × AreBytes text × (after ≡ texts ++ text ∷ [])
 TakesQuoted texts part after (Ok false) = after ≡ texts
 TakesQuoted texts part after (Err fault) = after ≡ texts
+
+-- neither a quote nor a backslash, a comma or a tab
+abbrev pub is_bare : List ℕ → Bool
+is_bare text = list_all (λ b. not (b == 39) && not (b == 92) && not (b == 44) && not (b == 9)) text
+
+-- the front of a text, with neither a comma nor a tab in it, and what stands behind it
+abbrev pub IsPart : List ℕ → List ℕ → List ℕ → Type 0
+IsPart text part behind = (text ≡ part ++ behind) × (0 < length part) × (list_all (λ b. not (b == 44) && not (b == 9)) part ≡ true)
+
+-- the front is taken, and what stands behind it is told, or nothing is taken
+abbrev pub TakesFront : {Store : Type 0} → (Store → List ℕ → Store → Result Bool OutOfMemory → Type 0) → Store → List ℕ → Store → Result (Option (Bor (List ℕ))) OutOfMemory → Type 0
+TakesFront Takes store text after (Ok (Some behind)) = (part : List ℕ) × IsPart text part behind.now × Takes store part after (Ok true)
+TakesFront Takes store text after (Ok None) = Takes store text after (Ok false)
+TakesFront Takes store text after (Err fault) = Takes store text after (Err fault)
 
 -- a text inside an array says the value of an element
 abbrev pub SaysElement : Ty → List ℕ → Value → Type 0

@@ -1,99 +1,150 @@
-//! One field into its column.
-ghost use Rattle.std.specs.Prelude.{◌≡◌, false, length, true};
-ghost use Rattle.scalar_texts.specs.Answer.{is_null};
+//! The first field of a text into its column, in one pass.
+ghost use Rattle.std.specs.Prelude.{◌≡◌, ◌==◌, ◌∷◌, [], IfSome, length, slice_index};
 ghost use Rattle.typed_columns.specs.Masks.{masked};
 ghost use Rattle.value_types.specs.declared.ty.Ty.TheVariants as ty;
-ghost use Rattle.quick_rows.specs.Taking.{TakesField, TakesFilled, TakesNumber, TakesText};
+ghost use Rattle.quick_rows.specs.Taking.{EndsField, IsFirstField, TakesField, TakesFilled, TakesFirst, TakesNumber, TakesText};
 
 use crate::list::take_list;
-use crate::number::plain_number;
-use crate::quoted::is_plain;
+use crate::number::front_number;
+use crate::quoted::first_plain;
 use column_parts::{Numbers, Texts};
-use scalar_texts::is_null;
 use std::alloc::Global;
 use typed_columns::{Column, Kind};
 use value_types::OutOfMemory;
 
-/// Takes a field into its column, or leaves the column as it is.
-pub(crate) fn take_field(
+/// What became of the first field of a text.
+pub(crate) enum Front<'a> {
+    /// It isn't regular, and the column is as before.
+    Irregular,
+    /// It stands at the column's end, and this stands behind its tab, if it has one.
+    Taken(Option<&'a [u8]>),
+}
+
+/// Takes the first field of a text into its column, or leaves the column as it is.
+#[inline]
+pub(crate) fn take_first<'a>(
     column: &mut Column,
     alloc: Global,
-    field: &[u8],
-) -> Result<bool, OutOfMemory>
-    ensures { TakesField column.old field.now column.new result }
+    text: &'a [u8],
+) -> Result<Front<'a>, OutOfMemory>
+    ensures { TakesFirst TakesField column.old text.now column.new result }
 {
-    if is_null(field) {
-        take_null(column, alloc, field)
+    if begins_with_backslash(text) {
+        take_null(column, alloc, text)
     } else {
-        take_filled(column, field)
+        take_filled(column, text)
     }
 }
 
-/// The same of `\N`.
-fn take_null(column: &mut Column, alloc: Global, field: &[u8]) -> Result<bool, OutOfMemory>
-    requires { is_null field.now ≡ true }
-    ensures { TakesField column.old field.now column.new result }
+#[inline]
+fn begins_with_backslash(text: &[u8]) -> bool
+    ensures { result ≡ (slice_index text.now 0 == 92) }
 {
+    matches!(text, [b'\\', ..])
+}
+
+/// The same of a field that begins with a backslash: it is `\N`, or irregular.
+fn take_null<'a>(
+    column: &mut Column,
+    alloc: Global,
+    text: &'a [u8],
+) -> Result<Front<'a>, OutOfMemory>
+    ensures { TakesFirst TakesField column.old text.now column.new result }
+{
+    let Some(behind) = behind_null(text) else {
+        return Ok(Front::Irregular);
+    };
     if let Kind::Nullable(_, _) = &column.kind {
         column.push_null(alloc)?;
-        return Ok(true);
+        return Ok(Front::Taken(behind));
     }
-    Ok(false)
+    Ok(Front::Irregular)
+}
+
+fn behind_null(text: &[u8]) -> Option<Option<&[u8]>>
+    ensures { IfSome result (λ behind. IsFirstField text.now (92 ∷ 78 ∷ []) behind) }
+{
+    match text {
+        [b'\\', b'N', left @ ..] => behind_field(left),
+        _ => None,
+    }
 }
 
 /// The same of any other field.
 #[cycle(filled)]
-fn take_filled(column: &mut Column, field: &[u8]) -> Result<bool, OutOfMemory>
-    requires { is_null field.now ≡ false }
-    ensures { TakesFilled column.old field.now column.new result }
+fn take_filled<'a>(column: &mut Column, text: &'a [u8]) -> Result<Front<'a>, OutOfMemory>
+    ensures { TakesFirst TakesFilled column.old text.now column.new result }
 {
     match &mut column.kind {
-        Kind::Numbers(numbers) => return take_number(numbers, field),
-        Kind::Texts(texts) => return take_text(texts, field),
-        Kind::Nullable(mask, values) => return take_some(mask, values, field),
-        Kind::Lists(starts, elements) => return take_list(starts, elements, field),
-        Kind::Maps(_, _, _) | Kind::Cells(_, _, _) => return Ok(false),
+        Kind::Numbers(numbers) => return take_number(numbers, text),
+        Kind::Texts(texts) => return take_text(texts, text),
+        Kind::Nullable(mask, values) => return take_some(mask, values, text),
+        Kind::Lists(starts, elements) => return take_list(starts, elements, text),
+        Kind::Maps(_, _, _) | Kind::Cells(_, _, _) => return Ok(Front::Irregular),
     }
 }
 
 /// The same into a column that may hold NULL.
 #[cycle(filled)]
-fn take_some(mask: &mut Vec<bool>, values: &mut Column, field: &[u8]) -> Result<bool, OutOfMemory>
-    requires null { is_null field.now ≡ false }
+fn take_some<'a>(
+    mask: &mut Vec<bool>,
+    values: &mut Column,
+    text: &'a [u8],
+) -> Result<Front<'a>, OutOfMemory>
     requires alike { length mask.old.items ≡ length values.old.values }
     ensures alike { length mask.new.items ≡ length values.new.values }
     ensures ty { values.new.ty ≡ values.old.ty }
-    ensures taken { TakesFilled (record { ty = ty.Nullable values.old.ty; values = masked mask.old.items values.old.values })
-        field.now (record { ty = ty.Nullable values.new.ty; values = masked mask.new.items values.new.values }) result }
+    ensures taken { TakesFirst TakesFilled (record { ty = ty.Nullable values.old.ty; values = masked mask.old.items values.old.values })
+        text.now (record { ty = ty.Nullable values.new.ty; values = masked mask.new.items values.new.values }) result }
 {
     mask.reserve(1)?;
-    match take_filled(values, field) {
-        Ok(true) => {
+    match take_filled(values, text) {
+        Ok(Front::Taken(behind)) => {
             mask.push(false)?;
-            Ok(true)
+            Ok(Front::Taken(behind))
         }
         other => other,
     }
 }
 
 #[inline]
-#[tactic(auto, using(crate::proofs::FieldLaws::taken_laws))]
-pub(crate) fn take_number(numbers: &mut Numbers, field: &[u8]) -> Result<bool, OutOfMemory>
-    ensures { TakesNumber numbers.old field.now numbers.new result }
+fn take_number<'a>(numbers: &mut Numbers, text: &'a [u8]) -> Result<Front<'a>, OutOfMemory>
+    ensures { TakesFirst TakesNumber numbers.old text.now numbers.new result }
 {
-    match plain_number(field) {
-        Some(number) => numbers.take(number),
-        None => Ok(false),
+    let Some((number, left)) = front_number(text) else {
+        return Ok(Front::Irregular);
+    };
+    let Some(behind) = behind_field(left) else {
+        return Ok(Front::Irregular);
+    };
+    match numbers.take(number) {
+        Ok(true) => Ok(Front::Taken(behind)),
+        Ok(false) => Ok(Front::Irregular),
+        Err(error) => Err(error),
     }
 }
 
 #[inline]
-fn take_text(texts: &mut Texts, field: &[u8]) -> Result<bool, OutOfMemory>
-    ensures { TakesText texts.old field.now texts.new result }
+fn take_text<'a>(texts: &mut Texts, text: &'a [u8]) -> Result<Front<'a>, OutOfMemory>
+    ensures { TakesFirst TakesText texts.old text.now texts.new result }
 {
-    if !is_plain(field) {
-        return Ok(false);
+    match first_plain(text) {
+        Some((field, behind)) => match texts.push(field) {
+            Ok(()) => Ok(Front::Taken(behind)),
+            Err(error) => Err(error),
+        },
+        None => Ok(Front::Irregular),
     }
-    texts.push(field)?;
-    Ok(true)
+}
+
+/// What stands behind the tab that ends a field, or nothing where the text ends it. `None` where another byte stands.
+#[inline]
+pub(crate) fn behind_field(left: &[u8]) -> Option<Option<&[u8]>>
+    ensures { IfSome result (λ behind. EndsField left.now behind) }
+{
+    match left {
+        [] => Some(None),
+        [b'\t', behind @ ..] => Some(Some(behind)),
+        _ => None,
+    }
 }

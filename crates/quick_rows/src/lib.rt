@@ -5,7 +5,6 @@
 #![tactic(auto)]
 
 mod field;
-mod front;
 mod line;
 mod list;
 mod number;

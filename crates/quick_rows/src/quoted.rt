@@ -1,24 +1,6 @@
 //! Strings without an escape.
-ghost use Rattle.std.specs.Prelude.{◌≡◌, ◌==◌, ◌||◌, IfSome, position, true};
-ghost use Rattle.quick_rows.specs.Taking.{AreBytes, IsFirstField, is_plain, is_quotable};
-
-/// Whether a text has no backslash.
-#[inline]
-pub(crate) fn is_plain(text: &[u8]) -> bool
-    ensures plain { result ≡ is_plain text.now }
-    ensures bytes { AreBytes text.now }
-{
-    text.iter().all(|byte| *byte != b'\\')
-}
-
-/// Whether a text has neither a backslash nor a quote.
-#[inline]
-pub(crate) fn is_quotable(text: &[u8]) -> bool
-    ensures quotable { result ≡ is_quotable text.now }
-    ensures bytes { AreBytes text.now }
-{
-    text.iter().all(|byte| *byte != b'\\' && *byte != b'\'')
-}
+ghost use Rattle.std.specs.Prelude.{◌≡◌, ◌==◌, ◌||◌, ◌∷◌, ◌++◌, IfSome, position, true};
+ghost use Rattle.quick_rows.specs.Taking.{AreBytes, IsFirstField, is_bare, is_plain};
 
 /// The first field, if it has no backslash, and what stands behind its tab, if it has one.
 #[inline]
@@ -43,4 +25,32 @@ fn plain_end(text: &[u8]) -> Option<usize>
 {
     text.iter()
         .position(|byte| *byte == b'\t' || *byte == b'\\')
+}
+
+/// What stands in quotes at the front of a text, if no backslash, comma or tab does, and what stands behind the quotes.
+#[inline]
+pub(crate) fn front_quoted(text: &[u8]) -> Option<(&[u8], &[u8])>
+    ensures { IfSome result (λ found. (text.now ≡ 39 ∷ (found.0.now ++ 39 ∷ found.1.now)) × (is_bare found.0.now ≡ true) × AreBytes found.0.now) }
+{
+    match text {
+        [b'\'', inside @ ..] => match bare_end(inside) {
+            Some(at) => {
+                if inside[at] == b'\'' {
+                    return Some((&inside[..at], inside.split_at(at + 1).1));
+                }
+                None
+            }
+            None => None,
+        },
+        _ => None,
+    }
+}
+
+/// Where the first quote, backslash, comma or tab stands.
+#[inline]
+fn bare_end(text: &[u8]) -> Option<usize>
+    ensures { result ≡ position (λ b. b == 39 || b == 92 || b == 44 || b == 9) text.now }
+{
+    text.iter()
+        .position(|byte| matches!(*byte, b'\'' | b'\\' | b',' | b'\t'))
 }

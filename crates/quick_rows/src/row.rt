@@ -2,7 +2,7 @@
 ghost use Rattle.columns.specs.Rows.{AreLong};
 ghost use Rattle.quick_rows.specs.Taking.{FillsColumns, TakesRow};
 
-use crate::front::{Front, take_first};
+use crate::field::{Front, take_first};
 use columns::{Batch, trim_each};
 use std::alloc::Global;
 use typed_columns::Column;

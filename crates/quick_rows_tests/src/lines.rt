@@ -1,6 +1,6 @@
 //! Lines that are taken, and lines that are left to the judge.
 use columns::Batch;
-use quick_rows::{Taken, take_row};
+use quick_rows::{Taken, first_line, take_row};
 use std::alloc::Global;
 use std::test::Fail;
 use value_types::{Boxed, OutOfMemory, Ty};
@@ -47,4 +47,22 @@ fn irregular_fields_are_left(rt: HostRuntime) -> Result<(), Fail> {
     assert!(rt; rows_of(alloc, b"7\t1\ta\\tb\t[]\t[]")? == 0);
     assert!(rt; rows_of(alloc, b"7\t1\tab\t['a,b']\t[]")? == 0);
     Ok(())
+}
+
+#[test]
+fn fields_that_another_byte_ends_are_left(rt: HostRuntime) -> Result<(), Fail> {
+    let alloc = rt.alloc();
+    assert!(rt; rows_of(alloc, b"7 \t-3\tab\t[]\t[]")? == 0);
+    assert!(rt; rows_of(alloc, b"7\t\\Nx\tab\t[]\t[]")? == 0);
+    assert!(rt; rows_of(alloc, b"7\t-3\tab\t['x'y]\t[]")? == 0);
+    assert!(rt; rows_of(alloc, b"7\t-3\tab\t[]\t[1]x")? == 0);
+    Ok(())
+}
+
+#[test]
+fn the_first_line_is_cut_off(rt: HostRuntime) {
+    let (line, rest) = first_line(b"7\t8\n9");
+    assert!(rt; line == b"7\t8" && rest == b"9");
+    let (line, rest) = first_line(b"9");
+    assert!(rt; line == b"9" && rest.is_empty());
 }

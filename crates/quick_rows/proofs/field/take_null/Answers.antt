@@ -1,4 +1,4 @@
-use Rattle.std.proofs.Common.{ap, sym, ◌∙◌, subst}
+use Rattle.std.proofs.Common.{ap, sym, ◌∙◌, ◌∷◌, [], subst, refl}
 use Rattle.value_types.specs.declared.value.Value.TheVariants.{Nil}
 use Rattle.typed_columns.specs.Growth.{Fits}
 use Rattle.typed_columns.specs.Views.{view_of}
@@ -15,8 +15,7 @@ pub returns-in-Nullable : goal.returns-in-Nullable
 returns-in-Nullable c =
     let of = c.in-Nullable.field-1.value.ty in
     let here = ap (λ v. v.ty) (sym c.column.view_is) ∙ ap (λ k. (view_of k).ty) c.in-Nullable.is in (
-      Nil,
-      subst (λ t. Fits t Nil) (sym here) (null_fits of),
-      subst (λ t. Says t c.args.field.now Nil) (sym here) (null_says of c.args.field.now c.requires),
-      c.in_ok-push_null.ensures.ok,
+      92 ∷ 78 ∷ [],
+      c.in-Some.ensures,
+      (Nil, subst (λ t. Fits t Nil) (sym here) (null_fits of), subst (λ t. Says t (92 ∷ 78 ∷ []) Nil) (sym here) (null_says of (92 ∷ 78 ∷ []) refl), c.in_ok-push_null.ensures.ok),
     )
