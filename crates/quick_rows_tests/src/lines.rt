@@ -62,7 +62,7 @@ fn fields_that_another_byte_ends_are_left(rt: HostRuntime) -> Result<(), Fail> {
 #[test]
 fn the_first_line_is_cut_off(rt: HostRuntime) {
     let (line, rest) = first_line(b"7\t8\n9");
-    assert!(rt; line == b"7\t8" && rest == b"9");
+    assert!(rt; line == b"7\t8".as_slice() && rest == b"9".as_slice());
     let (line, rest) = first_line(b"9");
-    assert!(rt; line == b"9" && rest.is_empty());
+    assert!(rt; line == b"9".as_slice() && rest.is_empty());
 }
