@@ -7,11 +7,15 @@ ghost use Rattle.plain_rows.specs.Rows.{rows_of};
 ghost use Rattle.plain_meaning.specs.Chains as chains;
 ghost use Rattle.plain_tests.specs.Fit.{are_values};
 
+use crate::given::{Given, Param, Sort, is_given, params_of, rows_of, types_of};
 use agg_values::{Chain, OutOfMemory, Seq, Ty, Value, fits};
 use chain_types::resolve;
 use plain_meaning::plain_meaning;
 use std::alloc::Global;
 use value_types::Literal;
+
+/// How many parameters and arguments a call here has at most.
+const MOST: usize = 32;
 
 fn has_no_merge(chain: &Chain) -> bool
     ensures { result ≡ chains.has_no_merge (chain_of chain.now) }
@@ -57,7 +61,7 @@ fn rows_fit(types: &[Ty], rows: &[Seq<Value>]) -> bool
 
 /// What a chain means over rows; nothing where there is no such chain, or where the rows are not of its types.
 #[tactic(auto, using(crate::proofs::Fit::rows_are))]
-pub fn meaning(
+fn meaning(
     alloc: Global,
     name: &[u8],
     params: &[Literal],
@@ -76,5 +80,44 @@ pub fn meaning(
             Ok(Some(plain_meaning(alloc, &legal, rows)?))
         }
         Err(_) => Ok(None),
+    }
+}
+
+/// What a chain means over rows of arguments of these types; nothing where there is no such chain.
+pub fn meaning_of(
+    alloc: Global,
+    name: &[u8],
+    params: &[Param],
+    sorts: &[Sort],
+    rows: &[&[Given<'_>]],
+) -> Result<Option<Value>, OutOfMemory> {
+    let params = params_of(alloc, params)?;
+    let types = types_of(alloc, sorts)?;
+    let rows = rows_of(alloc, rows)?;
+    if params.len() > MOST || types.len() > MOST {
+        return Ok(None);
+    }
+    meaning(
+        alloc,
+        name,
+        params.as_slice(),
+        types.as_slice(),
+        rows.as_slice(),
+    )
+}
+
+/// Whether a chain means this value over rows of arguments of these types.
+pub fn gives(
+    alloc: Global,
+    name: &[u8],
+    params: &[Param],
+    sorts: &[Sort],
+    rows: &[&[Given<'_>]],
+    wanted: Given<'_>,
+) -> Result<bool, OutOfMemory> {
+    match meaning_of(alloc, name, params, sorts, rows) {
+        Ok(Some(value)) => Ok(is_given(&value, wanted)),
+        Ok(None) => Ok(false),
+        Err(error) => Err(error),
     }
 }

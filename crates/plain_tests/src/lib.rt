@@ -8,4 +8,6 @@ mod checked;
 #[cfg(test)]
 mod functions;
 #[cfg(test)]
+mod given;
+#[cfg(test)]
 mod suffixes;

@@ -1,248 +1,137 @@
 //! Each suffix over a few rows.
-ghost use Rattle.std.specs.Prelude.{◌≡◌, true, IfOk};
-ghost use Rattle.agg_typing.specs.Legal.{is_legal_type};
-ghost use Rattle.value_types.specs.Folds.{ty_of};
-
-use crate::checked::meaning;
-use agg_values::{Boxed, OutOfMemory, Seq, Tree, Ty, Value};
-use std::alloc::Global;
+use crate::checked::{gives, meaning_of};
+use crate::given::Given::{List, Map, Nil, Num};
+use crate::given::{Given, Param, Sort};
+use agg_values::{Tree, Value};
 use std::test::Fail;
-use value_types::Literal;
 
-fn bytes(alloc: Global) -> Result<Ty, OutOfMemory>
-    ensures { IfOk result (λ ty. is_legal_type (ty_of ty) ≡ true) }
-{
-    Ok(Ty::Arr(Boxed::new(alloc, Ty::U8)?))
-}
-
-fn nullable_bytes(alloc: Global) -> Result<Ty, OutOfMemory>
-    ensures { IfOk result (λ ty. is_legal_type (ty_of ty) ≡ true) }
-{
-    let item = Ty::Nullable(Boxed::new(alloc, Ty::U8)?);
-    Ok(Ty::Arr(Boxed::new(alloc, item)?))
-}
-
-fn map_of_bytes(alloc: Global) -> Result<Ty, OutOfMemory>
-    ensures { IfOk result (λ ty. is_legal_type (ty_of ty) ≡ true) }
-{
-    let key = Boxed::new(alloc, Ty::U8)?;
-    Ok(Ty::Map(key, Boxed::new(alloc, Ty::U8)?))
-}
-
-fn list(alloc: Global, numbers: &[i128]) -> Result<Value, OutOfMemory> {
-    let mut items = Seq::new(alloc);
-    for number in numbers {
-        items.push(Value::Num(*number))?;
-    }
-    Ok(Value::List(items))
-}
-
-fn map(alloc: Global, entries: &[(i128, i128)]) -> Result<Value, OutOfMemory> {
-    let mut pairs = Seq::new(alloc);
-    for entry in entries {
-        pairs.push((Value::Num(entry.0), Value::Num(entry.1)))?;
-    }
-    Ok(Value::Pairs(pairs))
-}
-
-pub fn row(alloc: Global, value: Value) -> Result<Seq<Value>, OutOfMemory> {
-    let mut row = Seq::new(alloc);
-    row.push(value)?;
-    Ok(row)
-}
-
-fn pair(alloc: Global, first: Value, second: Value) -> Result<Seq<Value>, OutOfMemory> {
-    let mut row = row(alloc, first)?;
-    row.push(second)?;
-    Ok(row)
-}
-
-fn pairs(alloc: Global, pairs: &[(i128, i128)]) -> Result<Seq<Seq<Value>>, OutOfMemory> {
-    let mut rows = Seq::new(alloc);
-    for numbers in pairs {
-        rows.push(pair(alloc, Value::Num(numbers.0), Value::Num(numbers.1))?)?;
-    }
-    Ok(rows)
-}
-
-fn lists(alloc: Global, all: &[&[i128]]) -> Result<Seq<Seq<Value>>, OutOfMemory> {
-    let mut rows = Seq::new(alloc);
-    for numbers in all {
-        rows.push(row(alloc, list(alloc, numbers)?)?)?;
-    }
-    Ok(rows)
-}
-
-fn is_number(value: &Value, number: i128) -> bool {
-    match value {
-        Value::Num(found) => *found == number,
-        _ => false,
-    }
-}
-
-fn are_numbers(values: &[Value], numbers: &[i128]) -> bool {
-    match values {
-        [] => numbers.is_empty(),
-        [value, values @ ..] => match numbers {
-            [] => false,
-            [number, numbers @ ..] => is_number(value, *number) && are_numbers(values, numbers),
-        },
-    }
-}
-
-pub fn is_list(value: &Option<Value>, numbers: &[i128]) -> bool {
-    match value {
-        Some(Value::List(items)) => are_numbers(items.as_slice(), numbers),
-        _ => false,
-    }
-}
-
-fn are_entries(found: &[(Value, Value)], entries: &[(i128, i128)]) -> bool {
-    match found {
-        [] => entries.is_empty(),
-        [first, found @ ..] => match entries {
-            [] => false,
-            [entry, entries @ ..] => {
-                is_number(&first.0, entry.0)
-                    && is_number(&first.1, entry.1)
-                    && are_entries(found, entries)
-            }
-        },
-    }
-}
-
-fn is_map(value: &Option<Value>, entries: &[(i128, i128)]) -> bool {
-    match value {
-        Some(Value::Pairs(found)) => are_entries(found.as_slice(), entries),
-        _ => false,
-    }
-}
-
-pub fn is_only(value: &Option<Value>, number: i128) -> bool {
-    match value {
-        Some(value) => is_number(value, number),
-        None => false,
-    }
-}
+const BYTES: [Sort; 2] = [Sort::U8, Sort::U8];
 
 #[test]
 fn a_condition_keeps_rows(rt: HostRuntime) -> Result<(), Fail> {
-    let alloc = rt.alloc();
-    let rows = pairs(alloc, &[(5, 0), (7, 1), (9, 2)])?;
-    let types = [Ty::U8, Ty::U8];
-    let sum = meaning(alloc, b"sumIf", &[], &types, rows.as_slice())?;
-    assert!(rt; is_only(&sum, 16));
+    let rows: [&[Given<'_>]; 3] = [&[Num(5), Num(0)], &[Num(7), Num(1)], &[Num(9), Num(2)]];
+    assert!(rt; gives(rt.alloc(), b"sumIf", &[], &BYTES, &rows, Num(16))?);
     Ok(())
 }
 
 #[test]
 fn no_row_that_counts_is_null_under_or_null(rt: HostRuntime) -> Result<(), Fail> {
-    let alloc = rt.alloc();
-    let rows = pairs(alloc, &[(5, 0)])?;
-    let types = [Ty::U8, Ty::U8];
-    let inside = meaning(alloc, b"sumOrNullIf", &[], &types, rows.as_slice())?;
-    let outside = meaning(alloc, b"sumIfOrNull", &[], &types, rows.as_slice())?;
-    assert!(rt; matches!(inside, Some(Value::Nil)));
-    assert!(rt; matches!(outside, Some(Value::Nil)));
+    let rows: [&[Given<'_>]; 1] = [&[Num(5), Num(0)]];
+    assert!(rt; gives(rt.alloc(), b"sumOrNullIf", &[], &BYTES, &rows, Nil)?);
+    assert!(rt; gives(rt.alloc(), b"sumIfOrNull", &[], &BYTES, &rows, Nil)?);
     Ok(())
 }
 
 #[test]
 fn no_row_gives_the_default_under_or_default(rt: HostRuntime) -> Result<(), Fail> {
     let alloc = rt.alloc();
-    let bare = meaning(alloc, b"groupBitAnd", &[], &[Ty::U8], &[])?;
-    let default = meaning(alloc, b"groupBitAndOrDefault", &[], &[Ty::U8], &[])?;
-    assert!(rt; is_only(&bare, 255));
-    assert!(rt; is_only(&default, 0));
+    assert!(rt; gives(alloc, b"groupBitAnd", &[], &[Sort::U8], &[], Num(255))?);
+    assert!(rt;
+        gives(
+            alloc,
+            b"groupBitAndOrDefault",
+            &[],
+            &[Sort::U8],
+            &[],
+            Num(0)
+        )?
+    );
     Ok(())
 }
 
 #[test]
 fn each_place_has_its_sum(rt: HostRuntime) -> Result<(), Fail> {
-    let alloc = rt.alloc();
-    let rows = lists(alloc, &[&[1, 2], &[3, 4, 5], &[6, 7]])?;
-    let sums = meaning(alloc, b"sumForEach", &[], &[bytes(alloc)?], rows.as_slice())?;
-    assert!(rt; is_list(&sums, &[10, 13, 5]));
+    let rows: [&[Given<'_>]; 3] = [
+        &[List(&[Some(1), Some(2)])],
+        &[List(&[Some(3), Some(4), Some(5)])],
+        &[List(&[Some(6), Some(7)])],
+    ];
+    let sums = List(&[Some(10), Some(13), Some(5)]);
+    assert!(rt;
+        gives(
+            rt.alloc(),
+            b"sumForEach",
+            &[],
+            &[Sort::ArrayU8],
+            &rows,
+            sums
+        )?
+    );
     Ok(())
 }
 
 #[test]
 fn each_interval_has_its_count(rt: HostRuntime) -> Result<(), Fail> {
-    let alloc = rt.alloc();
-    let rows = pairs(
-        alloc,
-        &[(1, 16), (2, 30), (3, 35), (4, 48), (5, 62), (6, 60)],
-    )?;
-    let params = [Literal::Int(30), Literal::Int(75), Literal::Int(30)];
-    let types = [Ty::U8, Ty::U8];
-    let counts = meaning(alloc, b"countResample", &params, &types, rows.as_slice())?;
-    assert!(rt; is_list(&counts, &[3, 2]));
+    let rows: [&[Given<'_>]; 6] = [
+        &[Num(1), Num(16)],
+        &[Num(2), Num(30)],
+        &[Num(3), Num(35)],
+        &[Num(4), Num(48)],
+        &[Num(5), Num(62)],
+        &[Num(6), Num(60)],
+    ];
+    let params = [Param::Int(30), Param::Int(75), Param::Int(30)];
+    let counts = List(&[Some(3), Some(2)]);
+    assert!(rt; gives(rt.alloc(), b"countResample", &params, &BYTES, &rows, counts)?);
     Ok(())
 }
 
 #[test]
 fn each_key_has_its_sum(rt: HostRuntime) -> Result<(), Fail> {
-    let alloc = rt.alloc();
-    let mut rows = Seq::new(alloc);
-    rows.push(row(alloc, map(alloc, &[(1, 1), (2, 2)])?)?)?;
-    rows.push(row(alloc, map(alloc, &[(2, 3), (1, 4), (1, 5)])?)?)?;
-    let sums = meaning(
-        alloc,
-        b"sumMap",
-        &[],
-        &[map_of_bytes(alloc)?],
-        rows.as_slice(),
-    )?;
-    assert!(rt; is_map(&sums, &[(1, 10), (2, 5)]));
+    let rows: [&[Given<'_>]; 2] = [&[Map(&[(1, 1), (2, 2)])], &[Map(&[(2, 3), (1, 4), (1, 5)])]];
+    let sums = Map(&[(1, 10), (2, 5)]);
+    assert!(rt; gives(rt.alloc(), b"sumMap", &[], &[Sort::MapU8], &rows, sums)?);
     Ok(())
 }
 
 #[test]
 fn null_elements_do_not_count(rt: HostRuntime) -> Result<(), Fail> {
-    let alloc = rt.alloc();
-    let mut items = row(alloc, Value::Nil)?;
-    items.push(Value::Num(1))?;
-    let mut rows = lists(alloc, &[&[2]])?;
-    rows.push(row(alloc, Value::List(items))?)?;
-    let types = [nullable_bytes(alloc)?];
-    let sums = meaning(alloc, b"sumForEach", &[], &types, rows.as_slice())?;
-    assert!(rt; is_list(&sums, &[2, 1]));
+    let rows: [&[Given<'_>]; 2] = [&[List(&[Some(2)])], &[List(&[None, Some(1)])]];
+    let sums = List(&[Some(2), Some(1)]);
+    assert!(rt;
+        gives(
+            rt.alloc(),
+            b"sumForEach",
+            &[],
+            &[Sort::ArrayNullableU8],
+            &rows,
+            sums
+        )?
+    );
     Ok(())
 }
 
 #[test]
 fn arrays_go_as_far_as_the_shortest(rt: HostRuntime) -> Result<(), Fail> {
-    let alloc = rt.alloc();
-    let mut rows = Seq::new(alloc);
-    rows.push(pair(alloc, list(alloc, &[1, 2, 3])?, list(alloc, &[9, 8])?)?)?;
-    let types = [bytes(alloc)?, bytes(alloc)?];
-    let least = meaning(alloc, b"argMinArray", &[], &types, rows.as_slice())?;
-    assert!(rt; is_only(&least, 2));
+    let row = [
+        List(&[Some(1), Some(2), Some(3)]),
+        List(&[Some(9), Some(8)]),
+    ];
+    let sorts = [Sort::ArrayU8, Sort::ArrayU8];
+    assert!(rt; gives(rt.alloc(), b"argMinArray", &[], &sorts, &[&row], Num(2))?);
     Ok(())
 }
 
 #[test]
 fn equal_rows_count_once_under_distinct(rt: HostRuntime) -> Result<(), Fail> {
-    let alloc = rt.alloc();
-    let rows = lists(alloc, &[&[2, 1], &[1, 2]])?;
-    let types = [bytes(alloc)?];
-    let kept = meaning(
-        alloc,
-        b"groupArrayDistinctArray",
-        &[],
-        &types,
-        rows.as_slice(),
-    )?;
-    assert!(rt; is_list(&kept, &[2, 1]));
+    let rows: [&[Given<'_>]; 2] = [&[List(&[Some(2), Some(1)])], &[List(&[Some(1), Some(2)])]];
+    let name = b"groupArrayDistinctArray";
+    let kept = List(&[Some(2), Some(1)]);
+    assert!(rt; gives(rt.alloc(), name, &[], &[Sort::ArrayU8], &rows, kept)?);
     Ok(())
+}
+
+fn is_word(value: &Option<Value>, word: i128) -> bool {
+    match value {
+        Some(Value::Cell(Tree::Word(found))) => *found == word,
+        _ => false,
+    }
 }
 
 #[test]
 fn a_state_is_the_sum_so_far(rt: HostRuntime) -> Result<(), Fail> {
-    let alloc = rt.alloc();
-    let rows = pairs(alloc, &[(4, 1), (6, 1)])?;
-    let types = [Ty::U8, Ty::U8];
-    let state = meaning(alloc, b"sumIfState", &[], &types, rows.as_slice())?;
-    assert!(rt; matches!(state, Some(Value::Cell(Tree::Word(10)))));
+    let rows: [&[Given<'_>]; 2] = [&[Num(4), Num(1)], &[Num(6), Num(1)]];
+    let state = meaning_of(rt.alloc(), b"sumIfState", &[], &BYTES, &rows)?;
+    assert!(rt; is_word(&state, 10));
     Ok(())
 }

@@ -1,5 +1,0 @@
-use Rattle.std.proofs.Common.{length}
-use Rattle.plain_tests.proofs.suffixes.+are_entries.Given as goal
-
-abbrev pub decreases-are_entries : goal.decreases-are_entries
-decreases-are_entries l = length l.found.now
