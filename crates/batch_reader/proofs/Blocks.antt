@@ -1,5 +1,5 @@
 -- The rows of an input that is read block by block.
-use Rattle.std.proofs.Common.{◌≡◌, ℕ, ◌+◌, ◌-◌, ◌≤◌, true, List, [], ◌∷◌, ◌++◌, Option, None, Some, Result, Ok, Err, length, refl, sym, ap, ◌∙◌, arith, subst, append_assoc, length-append}
+use Rattle.std.proofs.Common.{◌≡◌, ℕ, ◌+◌, ◌-◌, true, List, [], ◌∷◌, ◌++◌, Option, None, Some, Result, Ok, Err, length, refl, sym, ap, ◌∙◌, arith, subst, append_assoc, length-append}
 use mathlib.Core.Logic.{◌⊎◌, inl, inr}
 use Rattle.std.proofs.lemmas.List.{append-nil}
 use Rattle.std.specs.Io.KnownBytes.{Consumes, IsAtEnd}
@@ -8,7 +8,7 @@ use Rattle.value_types.specs.declared.value.Value.{Value}
 use Rattle.tsv_text.specs.Lines.{lines_of}
 use Rattle.columns.specs.Rows.{Rows, no_rows, with_rows}
 use Rattle.scalar_texts.specs.States.{ReadsStates}
-use Rattle.row_texts.specs.Rows.{AreRows, IsFirstRefused, IsRowAnswer}
+use Rattle.row_texts.specs.Rows.{AreRows, IsRowAnswer}
 use Rattle.row_texts.specs.declared.refusal.LineRefusal.{LineRefusal}
 use Rattle.row_texts.specs.declared.refusal.LineRefusal.TheVariants as line
 use Rattle.line_reader.specs.Ahead.{Ahead, IsInput}
@@ -20,14 +20,27 @@ use Rattle.line_reader.proofs.Filled.{consumes-none, consumes-more}
 use Rattle.line_reader.proofs.Handed.{input-before, told_of, told-is}
 use Rattle.line_reader.proofs.Lines.{lines_of-append, lines_of-nil, ends_line-append, short-append}
 use Rattle.batch_reader.specs.Faults.{fault_of}
-use Rattle.batch_reader.specs.Pushing.{PushesBlock, PushesLines, RefusesBehind, StopsBefore}
+use Rattle.batch_reader.specs.Pushing.{PushesBlock, PushesLines, PushesText, RefusesBehind, StopsBefore}
 use Rattle.batch_reader.specs.Reading.{AreRowsUpTo, IsFront, IsReading, IsTakenOpen, ReadsRows, RefusesAt, RowCause}
 use Rattle.batch_reader.specs.declared.fault.RowFault.{RowFault}
 use Rattle.batch_reader.specs.declared.fault.RowFault.TheVariants as fault
 use Rattle.batch_reader.proofs.Pushed.{rows-append}
 
+-- lines that are pushed one by one
+pub text-pushed : (reads : ReadsStates) (batch after : Rows) (lines : List (List ℕ)) (pushed : Result (Unit {0}) LineRefusal) → PushesLines reads batch lines after pushed → PushesText reads batch lines after pushed
+text-pushed reads batch after lines (Ok done) h = h
+text-pushed reads batch after lines (Err (line.FieldCount want have)) h = h
+text-pushed reads batch after lines (Err (line.Field column f)) h = h
+text-pushed reads batch after lines (Err line.OutOfMemory) h = tt
+
+-- and in pieces whose lines are those of the text
+pub text-of-pieces : (reads : ReadsStates) (batch after : Rows) (pieces lines : List (List ℕ)) (pushed : Result (Unit {0}) LineRefusal) → PushesText reads batch pieces after pushed → pieces ≡ lines → PushesText reads batch lines after pushed
+text-of-pieces reads batch after pieces lines pushed h is = subst (λ (l : List (List ℕ)). PushesText reads batch l after pushed) is h
+
+pub ruleset text_laws = (text-pushed, text-of-pieces)
+
 -- all lines of a block are rows
-pub block-done : (reads : ReadsStates) (batch after : Rows) (lines : List (List ℕ)) (next : ℕ) → PushesLines reads batch lines after (Ok tt) → next ≡ length after.rows + 1
+pub block-done : (reads : ReadsStates) (batch after : Rows) (lines : List (List ℕ)) (next : ℕ) → PushesText reads batch lines after (Ok tt) → next ≡ length after.rows + 1
     → PushesBlock reads batch lines after (Ok next)
 block-done reads batch after lines next pushed next_is = (pushed.0, pushed.1, pushed.2, next_is)
 
@@ -51,7 +64,7 @@ behind-of reads batch after lines next refusal stops next_is = record {
 }
 
 -- a line of a block is refused
-pub block-refused : (reads : ReadsStates) (batch after : Rows) (lines : List (List ℕ)) (next : ℕ) (refusal : LineRefusal) → PushesLines reads batch lines after (Err refusal) → next ≡ length after.rows + 1
+pub block-refused : (reads : ReadsStates) (batch after : Rows) (lines : List (List ℕ)) (next : ℕ) (refusal : LineRefusal) → PushesText reads batch lines after (Err refusal) → next ≡ length after.rows + 1
     → PushesBlock reads batch lines after (Err (fault_of next refusal))
 block-refused reads batch after lines next (line.FieldCount want have) stops next_is = behind-of reads batch after lines next (line.FieldCount want have) stops next_is
 block-refused reads batch after lines next (line.Field column f) stops next_is = behind-of reads batch after lines next (line.Field column f) stops next_is

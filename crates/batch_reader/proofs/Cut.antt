@@ -1,12 +1,12 @@
 -- Texts that are cut at the ends of lines.
-use Rattle.std.proofs.Common.{◌≡◌, ℕ, zero, suc, ◌+◌, ◌<◌, ◌≤◌, true, List, [], ◌∷◌, ◌++◌, length, take, drop, get_or, refl, sym, ap, ◌∙◌, arith, subst, append_assoc}
+use Rattle.std.proofs.Common.{◌≡◌, ℕ, zero, suc, ◌+◌, ◌<◌, true, List, [], ◌∷◌, ◌++◌, length, take, drop, get_or, refl, sym, ap, ◌∙◌, arith, subst, append_assoc}
 use Rattle.std.proofs.lemmas.List.{append-nil, take-append-drop}
 use Rattle.tsv_text.specs.Lines.{is_newline, lines_of}
 use Rattle.line_reader.specs.Limits.{ends_line}
 use Rattle.line_reader.proofs.Lines.{lines_of-append, lines_of-nil}
 use denote.Ref.{Bor}
 use Rattle.batch_reader.specs.Pieces.{lines_in}
-use Rattle.batch_reader.proofs.Added.{lines_in-append}
+use Rattle.batch_reader.proofs.Lanes.{lines_in-append}
 
 -- up to a newline
 ends-at : (text : List ℕ) (end : ℕ) → end < length text → get_or text end 0 ≡ 10 → ends_line (take (suc end) text) ≡ true

@@ -1,6 +1,6 @@
 mod Quick
 mod Pushed
-mod Added
+mod Lanes
 mod Cut
 mod Sent
 mod Blocks

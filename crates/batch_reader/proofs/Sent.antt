@@ -9,7 +9,7 @@ use denote.Model.Goals.{All, has_of, one_law, part_has, send, tied_goals}
 use denote.Model.Local.{Parts, rows}
 use denote.Param.Send.{IsSend, recorded_send, sendable, view_send}
 use denote.Param.SendFields.{as_row_send, declared_send, variants_send}
-use denote.Struct.Field.{i128-field, i64-field, row_field, u64-field}
+use denote.Struct.Field.{i128-field, row_field}
 use mathlib.Core.List.{[], ◌∷◌}
 use Rattle.std.proofs.Crossing.{crosses, Box-send, Vec-send}
 use Rattle.std.specs.contracts.alloc.Global as Global

@@ -1,6 +1,5 @@
 -- The rows of lines at the end of a batch.
 use Rattle.std.specs.Prelude.{◌≡◌, ℕ, ◌+◌, length, List, ◌∷◌, ◌++◌, Result, Ok, Err}
-use Rattle.value_types.specs.declared.ty.Ty.{Ty}
 use Rattle.value_types.specs.declared.value.Value.{Value}
 use Rattle.columns.specs.Rows.{Rows, with_row, with_rows}
 use Rattle.scalar_texts.specs.States.{ReadsStates}
@@ -30,6 +29,12 @@ pub record StopsBefore (reads : ReadsStates) (batch after : Rows) (lines : List 
 abbrev pub PushesLines : ReadsStates → Rows → List (List ℕ) → Rows → Result (Unit {0}) LineRefusal → Type 0
 PushesLines reads batch lines after (Ok done) = (rows : List (List Value)) × AreRows reads batch.types lines rows × (after ≡ with_rows batch rows)
 PushesLines reads batch lines after (Err refusal) = StopsBefore reads batch after lines refusal
+
+-- the same, where want of memory says nothing
+abbrev pub PushesText : ReadsStates → Rows → List (List ℕ) → Rows → Result (Unit {0}) LineRefusal → Type 0
+PushesText reads batch lines after (Ok done) = PushesLines reads batch lines after (Ok done)
+PushesText reads batch lines after (Err line.OutOfMemory) = Unit {0}
+PushesText reads batch lines after (Err refusal) = StopsBefore reads batch after lines refusal
 
 -- The first refused line of a block, as the row of this number behind the rows of the batch.
 pub record RefusesBehind (reads : ReadsStates) (batch : Rows) (lines : List (List ℕ)) (number : ℕ) (refusal : LineRefusal) : Type 0 where

@@ -3,6 +3,8 @@
 #![tactic(auto)]
 
 mod fault;
+mod joining;
+mod lane;
 mod parallel;
 mod pieces;
 mod pushing;

@@ -1,130 +1,129 @@
-//! The rows of a text whose pieces are read side by side.
-ghost use Rattle.std.specs.Prelude.{◌≡◌, ◌+◌, ◌<◌, ◌^◌, length, IfOk};
-ghost use Rattle.std.specs.List.{AllZip};
-ghost use Rattle.tsv_text.specs.Lines.{lines_of};
-ghost use Rattle.columns.specs.Rows.{no_rows};
+//! The rows of a text whose pieces are read side by side, each into a lane of its own.
+ghost use Rattle.std.specs.Prelude.{◌≡◌, ◌<◌, ◌^◌, length, OnOk};
+ghost use Rattle.std.specs.List.{AllZip, HoldsAt, position};
 ghost use Rattle.row_texts.specs.Rows.{AreReadable};
-ghost use Rattle.batch_reader.specs.Pieces.{AddsPiece, IsPiece, lines_in};
-ghost use Rattle.batch_reader.specs.Pushing.{PushesBlock, PushesLines};
+ghost use Rattle.batch_reader.specs.Pieces.{AreOf, HasPiece, is_refused, lines_in};
+ghost use Rattle.batch_reader.specs.Pushing.{PushesText};
 
-use crate::RowFault;
-use crate::fault::fault_of;
-use crate::pushing::push_lines;
+use crate::joining::join_lanes;
+use crate::lane::Lane;
 use columns::Batch;
 use rayon::prelude::*;
 use row_texts::LineRefusal;
-use std::alloc::{AllocError, Global};
+use std::alloc::Global;
+use std::mem;
 use std::thread::Threads;
 use tsv_values::StateReader;
 use value_types::{OutOfMemory, Ty};
 
-/// The rows of a piece up to its first refused line, and why that one is none.
-#[derive(Drop)]
-pub(crate) struct Piece {
-    pub(crate) rows: Batch,
-    pub(crate) pushed: Result<(), LineRefusal>,
-}
-
-// The rows of a piece, in a batch of their own.
-fn read_piece<R: StateReader>(
+// So many lanes: those that there are, as far as they go.
+fn fit_lanes(
     alloc: Global,
-    reader: &R,
     types: &[Ty],
-    text: &[u8],
-) -> Result<Piece, OutOfMemory>
-    requires few { length types.now < 2 ^ 32 }
-    requires readable { AreReadable (R.takes reader.now) types.now }
-    ensures { IsPiece (R.reads reader.now) types.now text.now result }
+    lanes: &mut Vec<Lane>,
+    count: usize,
+) -> Result<(), OutOfMemory>
+    requires { AreOf types.now lanes.old.items }
+    ensures types { AreOf types.now lanes.new.items }
+    ensures count { OnOk result (length lanes.new.items ≡ count) }
 {
-    let mut rows = Batch::new(alloc, types)?;
-    let pushed = push_lines(alloc, reader, types, text, &mut rows);
-    Ok(Piece { rows, pushed })
+    lanes.truncate(count);
+    for _ in lanes.len()..count {
+        lanes.push(Lane::new(alloc, types)?)?;
+    }
+    Ok(())
 }
 
-// The rows of each piece, side by side.
-fn read_pieces<H: Threads + Sync, R: StateReader + Sync>(
+// Each piece into the lane at its place, side by side.
+fn fill_lanes<H: Threads + Sync, R: StateReader + Sync>(
     rt: &H,
     alloc: Global,
     reader: &R,
     types: &[Ty],
     pieces: &[&[u8]],
-) -> Result<Vec<Result<Piece, OutOfMemory>>, AllocError>
+    lanes: &mut [Lane],
+)
     requires few { length types.now < 2 ^ 32 }
     requires readable { AreReadable (R.takes reader.now) types.now }
-    ensures { IfOk result (λ read. AllZip (λ text piece. IsPiece (R.reads reader.now) types.now text.now piece) pieces.now read.items) }
+    requires types { AreOf types.now lanes.old }
+    requires same { length lanes.old ≡ length pieces.now }
+    ensures filled { AllZip (λ text lane. HasPiece (R.reads reader.now) types.now text.now lane) pieces.now lanes.new }
+    ensures types { AreOf types.now lanes.new }
 {
-    pieces
-        .par_iter()
-        .with_min_len(1)
-        .map(
-            |text: &&[u8]| -> Result<Piece, OutOfMemory>
-                requires few { length types.now < 2 ^ 32 }
-                requires readable { AreReadable (R.takes reader.now) types.now }
-                ensures { IsPiece (R.reads reader.entry.now) types.entry.now text.now.now result }
-            { read_piece(alloc, reader, types, text) },
-        )
-        .collect(rt, alloc)
+    par_for_each_mut(
+        rt,
+        lanes,
+        |i: usize, lane: &mut Lane|
+            requires few { length types.now < 2 ^ 32 }
+            requires readable { AreReadable (R.takes reader.now) types.now }
+            requires types { lane.old.rows.types ≡ types.now }
+            requires within { i < length pieces.now }
+            ensures { HoldsAt (λ text. HasPiece (R.reads reader.entry.now) types.entry.now text.now lane.new) pieces.entry.now i }
+        { lane.fill(alloc, reader, types, pieces[i]) },
+    );
 }
 
-// The number of the next row.
-pub(crate) fn next_number(batch: &Batch) -> Result<u64, OutOfMemory>
-    ensures { IfOk result (λ number. number ≡ length batch.now.rows + 1) }
+// The place of the first lane whose piece has a refused line.
+fn first_refused(lanes: &[Lane]) -> Option<usize>
+    ensures { result ≡ position is_refused lanes.now }
 {
-    let count = batch.len();
-    if count == usize::MAX {
-        return Err(OutOfMemory);
+    lanes.iter().position(|lane| lane.pushed.is_err())
+}
+
+// The rows of the pieces behind those of the batch, by way of as many lanes.
+fn push_lanes<H: Threads + Sync, R: StateReader + Sync>(
+    rt: &H,
+    alloc: Global,
+    reader: &R,
+    types: &[Ty],
+    pieces: &[&[u8]],
+    lanes: &mut [Lane],
+    batch: &mut Batch,
+) -> Result<(), LineRefusal>
+    requires few { length types.now < 2 ^ 32 }
+    requires readable { AreReadable (R.takes reader.now) types.now }
+    requires types { batch.old.types ≡ types.now }
+    requires lanes { AreOf types.now lanes.old }
+    requires same { length lanes.old ≡ length pieces.now }
+    ensures pushed { PushesText (R.reads reader.now) batch.old (lines_in pieces.now) batch.new result }
+    ensures lanes { AreOf types.now lanes.new }
+{
+    fill_lanes(rt, alloc, reader, types, pieces, lanes);
+    match first_refused(lanes) {
+        None => {
+            join_lanes(alloc, lanes, batch)?;
+            Ok(())
+        }
+        Some(place) => {
+            join_lanes(alloc, &lanes[..place + 1], batch)?;
+            mem::replace(&mut lanes[place].pushed, Ok(()))
+        }
     }
-    Ok(count as u64 + 1)
 }
 
-// Adds the rows of a piece to those of the pieces before it.
-#[tactic(auto, using(crate::proofs::Added::piece_laws))]
-fn add_piece(alloc: Global, piece: Piece, batch: &mut Batch) -> Result<(), RowFault>
-    requires { batch.old.types ≡ piece.rows.types }
-    ensures { AddsPiece batch.old piece batch.new result }
-{
-    let Piece { rows, pushed } = piece;
-    batch.append(alloc, &rows)?;
-    let number = next_number(batch)?;
-    match pushed {
-        Ok(()) => Ok(()),
-        Err(refusal) => Err(fault_of(number, refusal)),
-    }
-}
-
-/// Adds the rows of pieces that are read side by side to a batch, and tells the number of the row that comes next.
+/// Adds the rows of the lines of pieces that are read side by side to a batch, up to the first line that is refused. The lanes are kept
+/// for the pieces of the next block.
 ///
 /// # Errors
 ///
-/// The first refused line of all pieces, as that row, or [`RowFault::OutOfMemory`].
+/// Why the first refused line of all pieces is none; the rows of those before it are in the batch. Where there is no room it is left open
+/// which rows are.
 pub(crate) fn push_pieces<H: Threads + Sync, R: StateReader + Sync>(
     rt: &H,
     alloc: Global,
     reader: &R,
     types: &[Ty],
     pieces: &[&[u8]],
+    lanes: &mut Vec<Lane>,
     batch: &mut Batch,
-) -> Result<u64, RowFault>
+) -> Result<(), LineRefusal>
     requires few { length types.now < 2 ^ 32 }
     requires readable { AreReadable (R.takes reader.now) types.now }
     requires types { batch.old.types ≡ types.now }
-    ensures { PushesBlock (R.reads reader.now) batch.old (lines_in pieces.now) batch.new result }
+    requires lanes { AreOf types.now lanes.old.items }
+    ensures pushed { PushesText (R.reads reader.now) batch.old (lines_in pieces.now) batch.new result }
+    ensures lanes { AreOf types.now lanes.new.items }
 {
-    let read = match read_pieces(rt, alloc, reader, types, pieces) {
-        Ok(read) => read,
-        Err(_) => return Err(RowFault::OutOfMemory),
-    };
-    for piece in read {
-        match piece {
-            Ok(piece) => match add_piece(alloc, piece, batch) {
-                Ok(()) => {}
-                Err(fault) => return Err(fault),
-            },
-            Err(_) => return Err(RowFault::OutOfMemory),
-        }
-    }
-    match next_number(batch) {
-        Ok(number) => Ok(number),
-        Err(_) => Err(RowFault::OutOfMemory),
-    }
+    fit_lanes(alloc, types, lanes, pieces.len())?;
+    push_lanes(rt, alloc, reader, types, pieces, lanes, batch)
 }

@@ -2,12 +2,14 @@
 ghost use Rattle.std.specs.Prelude.{◌≡◌, ◌+◌, ◌<◌, ◌^◌, length, IfOk};
 ghost use Rattle.tsv_text.specs.Lines.{lines_of};
 ghost use Rattle.row_texts.specs.Rows.{AreReadable};
-ghost use Rattle.batch_reader.specs.Pushing.{PushesBlock};
+ghost use Rattle.batch_reader.specs.Pieces.{AreOf};
+ghost use Rattle.batch_reader.specs.Pushing.{PushesBlock, PushesText};
 ghost use Rattle.batch_reader.specs.Reading.{ReadsRows, RowCause, types_of};
 
 use crate::RowFault;
 use crate::fault::fault_of;
-use crate::parallel::{next_number, push_pieces};
+use crate::lane::Lane;
+use crate::parallel::push_pieces;
 use crate::pieces::cut;
 use crate::pushing::push_lines;
 use crate::schema_types::types_of;
@@ -16,10 +18,11 @@ use agg_ports::Source;
 use columns::Batch;
 use line_reader::{Block, LineReader, Lookahead, Stop};
 use rayon::current_num_threads;
+use row_texts::LineRefusal;
 use std::alloc::Global;
 use std::thread::Threads;
 use tsv_values::StateReader;
-use value_types::Ty;
+use value_types::{OutOfMemory, Ty};
 
 // How many bytes are worth a thread of their own.
 const LEAST_PIECE: usize = 65_536;
@@ -41,31 +44,47 @@ impl Cutting {
     }
 }
 
-// Adds the rows of a block to those of the batch, line by line, and tells the number of the row that comes next.
-#[tactic(auto, using(crate::proofs::Blocks::block_laws))]
-fn push_whole<R: StateReader>(
+// Adds the rows of the lines of a block to a batch, up to the first that is refused. Where the block is long enough its pieces are read side by
+// side.
+#[tactic(auto, using(crate::proofs::Blocks::text_laws))]
+fn push_text<H: Threads + Sync, R: StateReader + Sync>(
+    rt: &H,
     alloc: Global,
     reader: &R,
     types: &[Ty],
+    cutting: Cutting,
     text: &[u8],
+    lanes: &mut Vec<Lane>,
     batch: &mut Batch,
-) -> Result<u64, RowFault>
+) -> Result<(), LineRefusal>
     requires few { length types.now < 2 ^ 32 }
     requires readable { AreReadable (R.takes reader.now) types.now }
     requires types { batch.old.types ≡ types.now }
-    ensures { PushesBlock (R.reads reader.now) batch.old (lines_of text.now) batch.new result }
+    requires lanes { AreOf types.now lanes.old.items }
+    ensures pushed { PushesText (R.reads reader.now) batch.old (lines_of text.now) batch.new result }
+    ensures lanes { AreOf types.now lanes.new.items }
 {
-    let pushed = push_lines(alloc, reader, types, text, batch);
-    match next_number(batch) {
-        Ok(number) => match pushed {
-            Ok(()) => Ok(number),
-            Err(refusal) => Err(fault_of(number, refusal)),
-        },
-        Err(_) => Err(RowFault::OutOfMemory),
+    let least = cutting.piece_len(text.len());
+    if text.len() <= least {
+        return push_lines(alloc, reader, types, text, batch);
     }
+    let pieces = cut(alloc, text, least)?;
+    push_pieces(rt, alloc, reader, types, &pieces, lanes, batch)
 }
 
-// The same, with its pieces read side by side where it is long enough.
+// The number of the next row.
+fn next_number(batch: &Batch) -> Result<u64, OutOfMemory>
+    ensures { IfOk result (λ number. number ≡ length batch.now.rows + 1) }
+{
+    let count = batch.len();
+    if count == usize::MAX {
+        return Err(OutOfMemory);
+    }
+    Ok(count as u64 + 1)
+}
+
+// Adds the rows of a block to those of the batch, and tells the number of the row that comes next.
+#[tactic(auto, using(crate::proofs::Blocks::block_laws))]
 fn push_block<H: Threads + Sync, R: StateReader + Sync>(
     rt: &H,
     alloc: Global,
@@ -73,19 +92,22 @@ fn push_block<H: Threads + Sync, R: StateReader + Sync>(
     types: &[Ty],
     cutting: Cutting,
     text: &[u8],
+    lanes: &mut Vec<Lane>,
     batch: &mut Batch,
 ) -> Result<u64, RowFault>
     requires few { length types.now < 2 ^ 32 }
     requires readable { AreReadable (R.takes reader.now) types.now }
     requires types { batch.old.types ≡ types.now }
-    ensures { PushesBlock (R.reads reader.now) batch.old (lines_of text.now) batch.new result }
+    requires lanes { AreOf types.now lanes.old.items }
+    ensures pushed { PushesBlock (R.reads reader.now) batch.old (lines_of text.now) batch.new result }
+    ensures lanes { AreOf types.now lanes.new.items }
 {
-    let least = cutting.piece_len(text.len());
-    if text.len() <= least {
-        return push_whole(alloc, reader, types, text, batch);
-    }
-    match cut(alloc, text, least) {
-        Ok(pieces) => push_pieces(rt, alloc, reader, types, &pieces, batch),
+    let pushed = push_text(rt, alloc, reader, types, cutting, text, lanes, batch);
+    match next_number(batch) {
+        Ok(number) => match pushed {
+            Ok(()) => Ok(number),
+            Err(refusal) => Err(fault_of(number, refusal)),
+        },
         Err(_) => Err(RowFault::OutOfMemory),
     }
 }
@@ -110,6 +132,7 @@ fn read_all<H: Threads + Sync, S: Source, R: StateReader + Sync>(
         Ok(batch) => batch,
         Err(_) => return Err(RowFault::OutOfMemory),
     };
+    let mut lanes = Vec::new(alloc);
     let mut block = Block::new(alloc);
     for _ in 0..usize::MAX {
         let stop = match ahead.read_block(source, &mut block) {
@@ -123,6 +146,7 @@ fn read_all<H: Threads + Sync, S: Source, R: StateReader + Sync>(
             types,
             cutting,
             block.as_slice(),
+            &mut lanes,
             &mut batch,
         ) {
             Ok(next) => next,
