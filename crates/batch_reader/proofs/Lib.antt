@@ -1,6 +1,7 @@
 mod Quick
 mod Pushed
 mod Lanes
+mod Joined
 mod Cut
-mod Sent
+mod Crossing
 mod Blocks

@@ -1,4 +1,5 @@
 pub mod Faults
+pub mod Joining
 pub mod Pieces
 pub mod Pushing
 pub mod Reading

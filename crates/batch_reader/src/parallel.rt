@@ -91,11 +91,11 @@ fn push_lanes<H: Threads + Sync, R: StateReader + Sync>(
     fill_lanes(rt, alloc, reader, types, pieces, lanes);
     match first_refused(lanes) {
         None => {
-            join_lanes(alloc, lanes, batch)?;
+            join_lanes(rt, alloc, lanes, batch)?;
             Ok(())
         }
         Some(place) => {
-            join_lanes(alloc, &lanes[..place + 1], batch)?;
+            join_lanes(rt, alloc, &lanes[..place + 1], batch)?;
             mem::replace(&mut lanes[place].pushed, Ok(()))
         }
     }

@@ -6,7 +6,7 @@ use denote.Ref.{Bor}
 use Rattle.batch_reader.specs.Pieces.{HasPiece}
 use Rattle.batch_reader.specs.declared.lane.Lane.{Lane}
 use Rattle.batch_reader.proofs.Lanes.{zip-each, zip-types}
-use Rattle.batch_reader.proofs.Sent.{column-send}
+use Rattle.batch_reader.proofs.Crossing.{column-send}
 use Rattle.batch_reader.proofs.parallel.fill_lanes.Given.{Over}
 use Rattle.batch_reader.proofs.parallel.fill_lanes.Goals.{After-par_for_each_mut}
 use Rattle.batch_reader.proofs.parallel.fill_lanes.Goals as goal

@@ -9,7 +9,7 @@ pub returns-in_ok-join_lanes-in-None-clause-pushed :
     goal.returns-in_ok-join_lanes-in-None-clause-pushed
 returns-in_ok-join_lanes-in-None-clause-pushed g c =
     all-pushed (g.R.StateReader.reads c.args.reader.now) c.args.batch.now c.join_lanes.new.batch c.args.types.now c.args.pieces.now c.fill_lanes.new.lanes c.first_refused.result
-    c.fill_lanes.ensures.filled c.first_refused.ensures c.in-None.is c.requires.types c.in_ok-join_lanes-in-None.ensures
+    c.fill_lanes.ensures.filled c.first_refused.ensures c.in-None.is c.requires.types c.in_ok-join_lanes-in-None.ensures.ok
 
 pub returns-in_ok-join_lanes-in-Some-clause-pushed :
     goal.returns-in_ok-join_lanes-in-Some-clause-pushed
@@ -22,4 +22,4 @@ returns-in_ok-join_lanes-in-Some-clause-pushed g c =
     subst (PushesText reads c.args.batch.now (lines_in c.args.pieces.now) c.join_lanes-in-Some.new.batch) (ap (λ it. it.pushed) c.index-lanes-place.is ∙ sym c.replace.ensures.value)
     (first-refused reads c.args.batch.now c.join_lanes-in-Some.new.batch c.args.types.now c.args.pieces.now lanes c.first_refused.result place lane
     c.fill_lanes.ensures.filled c.first_refused.ensures c.in-Some.is c.index-lanes-place.is c.requires.types
-    (c.in_ok-join_lanes-in-Some.ensures ∙ ap (λ (n : ℕ). with_rows c.args.batch.now (rows_in (take n lanes))) next))
+    (c.in_ok-join_lanes-in-Some.ensures.ok ∙ ap (λ (n : ℕ). with_rows c.args.batch.now (rows_in (take n lanes))) next))
