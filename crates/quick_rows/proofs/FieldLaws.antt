@@ -25,7 +25,7 @@ use Rattle.typed_columns.specs.Growth.{Fits}
 use Rattle.typed_columns.specs.Views.{number_ty}
 use Rattle.typed_columns.specs.Masks.{masked}
 use Rattle.typed_columns.proofs.Masks.{masked_push}
-use Rattle.quick_rows.specs.Taking.{AreBytes, Says, SaysFilled, TakesField, TakesFilled, TakesNumber, TakesText, is_plain}
+use Rattle.quick_rows.specs.Taking.{AreBytes, Says, SaysFilled, TakesField, TakesFilled, TakesNumber, TakesText, is_plain, numbers_seen, texts_seen}
 use Rattle.quick_rows.proofs.Numbers.{number_fits, number_says}
 
 -- a number that the store took is the field's
@@ -36,12 +36,6 @@ number_taken old new field z (Ok false) text is h = h.1
 number_taken old new field z (Err fault) text is h = h
 
 pub ruleset taken_laws = (number_taken)
-
-abbrev pub numbers_seen : NumberList → TypedValues
-numbers_seen n = record { ty = number_ty n.kind; values = map value.Num n.numbers }
-
-abbrev pub texts_seen : List (List ℕ) → TypedValues
-texts_seen texts = record { ty = ty.Str; values = map value.Bytes texts }
 
 pub numbers_filled : (old new : NumberList) (field : List ℕ) (r : Result Bool OutOfMemory) → TakesNumber old field new r →
     TakesFilled (numbers_seen old) field (numbers_seen new) r

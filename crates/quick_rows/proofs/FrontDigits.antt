@@ -11,8 +11,7 @@ use Rattle.std.proofs.lemmas.List.Folds.{list_all-append}
 use Rattle.field_texts.specs.Syntax.{AreDigits, IsDigits, IsNumber}
 use Rattle.scalar_texts.specs.Numbers.{number_value, signed, split_sign}
 use Rattle.scalar_texts.proofs.Digits.{are_digits_so, digit_is, digits_parts, some_digits}
-use Rattle.quick_rows.specs.Taking.{IsPart}
-use Rattle.quick_rows.proofs.Fronts.{keeps_on}
+use Rattle.quick_rows.proofs.Fronts.{IsPart, keeps_on}
 use Rattle.quick_rows.proofs.Numbers.{number_said}
 
 -- the digits that were read, and the number that they write

@@ -1,5 +1,5 @@
 -- The front of a text up to a byte that ends it.
-use Rattle.std.proofs.Common.{◌≡◌, add-one, ℕ, zero, suc, ◌+◌, ◌-◌, ◌<◌, ◌≤◌, ◌≢◌, Bool, true, false, not, ◌||◌, ◌&&◌, List, [], ◌∷◌, ◌++◌, length, take, drop, get_or, cond, eqb, Option, None, Some, Bor, IfSome, nat_lt, ◌^◌, refl, sym, ap, subst, ◌∙◌, arith, append_assoc, length-append}
+use Rattle.std.proofs.Common.{◌≡◌, add-one, ℕ, zero, suc, ◌+◌, ◌-◌, ◌<◌, ◌≤◌, ◌≢◌, Bool, true, false, not, ◌||◌, ◌&&◌, List, [], ◌∷◌, ◌++◌, length, take, drop, get_or, cond, eqb, Option, None, Some, Bor, nat_lt, ◌^◌, refl, sym, ap, subst, ◌∙◌, arith, append_assoc, length-append}
 use Rattle.std.specs.List.{list_all, slice_split, onto_first, position, position_or_len}
 use Rattle.std.specs.Cmp.Derive.{both_true}
 use Rattle.std.proofs.lemmas.Bool.{and_parts, ltb-false}
@@ -11,7 +11,8 @@ use Rattle.std.proofs.lemmas.List.Quantifiers.{position-Some}
 use Rattle.std.proofs.lemmas.List.Splits.{slice_split-cons_no, slice_split-cons_yes}
 use Rattle.tsv_text.specs.Lines.{fields_of, is_tab}
 use Rattle.scalar_texts.specs.Answer.{is_null}
-use Rattle.quick_rows.specs.Taking.{AreBytes, EndsField, IsFirstField, IsPart, is_bare, is_plain, is_quotable}
+use Rattle.quick_rows.specs.declared.field.Front.TheVariants as front
+use Rattle.quick_rows.specs.Taking.{AreBytes, EndsField, IsFirstField, is_bare, is_plain, is_quotable}
 
 abbrev pub is_comma : ℕ → Bool
 is_comma b = eqb b 44
@@ -45,7 +46,7 @@ unfolding fields_of
 field_alone text field plain is = ap fields_of is ∙ split-whole is_tab field plain
 
 -- a front without a tab that a tab or the text ends
-pub first_by_end : (text field left : List ℕ) (behind : Option (Bor (List ℕ))) → Fails is_tab field → text ≡ field ++ left → EndsField left behind → IsFirstField text field behind
+pub first_by_end : (text field left : List ℕ) (behind : Option (Bor (List ℕ))) → Fails is_tab field → text ≡ field ++ left → EndsField left (front.Taken behind) → IsFirstField text field behind
 first_by_end text field left None plain split ends = field_alone text field plain (split ∙ ap (λ t. field ++ t) ends ∙ append-nil field)
 first_by_end text field left (Some behind) plain split ends = field_then_tab text field behind.now plain (split ∙ ap (λ t. field ++ t) ends)
 
@@ -57,6 +58,10 @@ not_so : (b : Bool) → not b ≡ true → b ≡ false
 not_so true h = cc
 not_so false h = refl
 
+-- a front of a text, with neither a comma nor a tab in it, and what stands behind it
+abbrev pub IsPart : List ℕ → List ℕ → List ℕ → Type 0
+IsPart text part behind = (text ≡ part ++ behind) × (0 < length part) × (list_all keeps_on part ≡ true)
+
 pub kept_fails : (xs : List ℕ) → list_all keeps_on xs ≡ true → Fails is_comma xs × Fails is_tab xs
 kept_fails [] h = (tt, tt)
 kept_fails (x ∷ xs) h =
@@ -65,7 +70,7 @@ kept_fails (x ∷ xs) h =
     let more = kept_fails xs all.1 in
     ((not_so (eqb x 44) here.0, more.0), (not_so (eqb x 9) here.1, more.1))
 
-pub part_field : (text part left : List ℕ) (behind : Option (Bor (List ℕ))) → IsPart text part left → EndsField left behind → IsFirstField text part behind
+pub part_field : (text part left : List ℕ) (behind : Option (Bor (List ℕ))) → IsPart text part left → EndsField left (front.Taken behind) → IsFirstField text part behind
 part_field text part left behind h ends = first_by_end text part left behind (kept_fails part h.2).1 h.0 ends
 
 pub Fails-append : (p : ℕ → Bool) (xs ys : List ℕ) → Fails p xs → Fails p ys → Fails p (xs ++ ys)
@@ -216,7 +221,5 @@ unfolding fields_of
 some_field text field None other h = null_field text field [] other h
 some_field text field (Some behind) other h = null_field text field (slice_split is_tab behind.now) other h.0
 
-pub null_first : (text left : List ℕ) (found : Option (Option (Bor (List ℕ)))) → text ≡ 92 ∷ 78 ∷ left → IfSome found (λ behind. EndsField left behind) →
-    IfSome found (λ behind. IsFirstField text (92 ∷ 78 ∷ []) behind)
-null_first text left None is h = tt
-null_first text left (Some behind) is h = first_by_end text (92 ∷ 78 ∷ []) left behind (refl, (refl, tt)) is h
+pub null_first : (text left : List ℕ) (behind : Option (Bor (List ℕ))) → text ≡ 92 ∷ 78 ∷ left → EndsField left (front.Taken behind) → IsFirstField text (92 ∷ 78 ∷ []) behind
+null_first text left behind is h = first_by_end text (92 ∷ 78 ∷ []) left behind (refl, (refl, tt)) is h

@@ -1,5 +1,5 @@
 -- An array that is taken element by element.
-use Rattle.std.proofs.Common.{◌≡◌, ℕ, ◌+◌, ◌≤◌, ◌<◌, Bool, true, false, not, ◌&&◌, List, [], ◌∷◌, ◌++◌, length, map, ap, sym, subst, ◌∙◌, refl, arith, Option, Bor, eqb, length-append}
+use Rattle.std.proofs.Common.{◌≡◌, ℕ, ◌+◌, ◌≤◌, ◌<◌, Bool, true, false, not, ◌&&◌, List, [], ◌∷◌, ◌++◌, length, map, ap, sym, subst, ◌∙◌, refl, arith, eqb, length-append}
 use Rattle.std.specs.Prelude.{Result, Ok, Err}
 use Rattle.std.specs.List.{join_with_byte, list_all, slice_split}
 use Rattle.std.proofs.lemmas.Bool.{and_parts, eqb-false}
@@ -21,6 +21,7 @@ use Rattle.value_types.proofs.FoldLaws.{ty_of-Arr, ty_of-Str, value_of-Bytes, va
 use Rattle.tsv_text.specs.Lines.{is_tab}
 use Rattle.tsv_text.specs.Escapes.{plain, pieces_bytes, pieces_then}
 use Rattle.field_texts.specs.Syntax.{AllFitInQuotes, Token}
+use Rattle.scalar_texts.specs.Answer.{is_null}
 use Rattle.scalar_texts.specs.Numbers.{number_value}
 use Rattle.scalar_texts.specs.States.{ReadsStates}
 use Rattle.scalar_texts.specs.declared.fault.FieldFault.{FieldFault}
@@ -31,9 +32,11 @@ use Rattle.typed_columns.specs.TypedValues.{TypedValues}
 use Rattle.typed_columns.specs.Growth.{AllFit, Fits, trim, with_value, with_values}
 use Rattle.tsv_values.specs.Answer.{IsFilledAnswer}
 use Rattle.tsv_values.specs.Elements.{ElementSays, OpenedSay, Spaced, all_of, onto}
-use Rattle.quick_rows.specs.Taking.{AreElements, EndsField, IsArrayText, IsFirstField, IsPart, SaysElement, SaysFilled, TakesElement, TakesElements, TakesFilled, TakesNumber, TakesQuoted, is_quotable, lists_seen, parts_of}
-use Rattle.quick_rows.proofs.FieldLaws.{numbers_seen, text_fits, texts_seen}
-use Rattle.quick_rows.proofs.Fronts.{Fails, Fails-append, first_by_end, is_comma, kept_fails, split-front, split-whole}
+use Rattle.quick_rows.specs.declared.field.Front.{Front}
+use Rattle.quick_rows.specs.declared.field.Front.TheVariants as front
+use Rattle.quick_rows.specs.Taking.{AreElements, EndsField, IsArrayText, SaysElement, SaysFilled, TakesElement, TakesElements, TakesField, TakesFilled, TakesFirst, TakesNumber, TakesQuoted, is_quotable, lists_seen, numbers_seen, parts_of, texts_seen}
+use Rattle.quick_rows.proofs.FieldLaws.{filled_field, text_fits}
+use Rattle.quick_rows.proofs.Fronts.{Fails, Fails-append, IsPart, first_by_end, is_comma, kept_fails, split-front, split-whole}
 use Rattle.quick_rows.proofs.Numbers.{number_element, number_fits}
 
 -- elements of a number type, and strings in quotes
@@ -136,10 +139,13 @@ some_parts : (text : List ℕ) → 0 < length text → slice_split is_comma text
 some_parts [] h = absurd (omega arith)
 some_parts (b ∷ text) h = refl
 
+grown : (old now : TypedValues) (values : List Value) → now ≡ with_values old values → trim (length old.values) now ≡ old
+grown old now values stand = ap (trim (length old.values)) stand ∙ (λ i. record { ty = old.ty; values = take_at old.values values (length old.values) refl i })
+
 -- the last element, and the closing bracket
-pub listed_all : (old now next : TypedValues) (inside left part behind after : List ℕ) (ends : Option (Bor (List ℕ))) → Listed old now inside left → IsPart left part behind → behind ≡ 93 ∷ after →
-    TakesElement now part next (Ok true) → EndsField after ends → (field : List ℕ) × IsFirstField (91 ∷ inside) field ends × TakesElements old field next (Ok true)
-listed_all old now next inside left part behind after ends f cut bracket taken h =
+pub listed_all : (old now next : TypedValues) (inside left part behind after : List ℕ) (ends : Front) → Listed old now inside left → IsPart left part behind → behind ≡ 93 ∷ after →
+    TakesElement now part next (Ok true) → EndsField after ends → TakesFirst TakesElements old (91 ∷ inside) next (Ok ends)
+listed_all old now next inside left part behind after (front.Taken ends) f cut bracket taken h =
     let v = taken.0 in
     let more = fit_more old now next inside left part f taken in
     let plain = kept_fails part cut.2 in
@@ -159,21 +165,28 @@ listed_all old now next inside left part behind after ends f cut bracket taken h
         more.2,
       ),
     )
+listed_all old now next inside left part behind after front.Irregular f cut bracket taken h =
+    let more = fit_more old now next inside left part f taken in
+    grown old next (f.values ++ taken.0 ∷ []) more.2
+
+pub unlisted : (old now : TypedValues) (inside left : List ℕ) → Listed old now inside left → trim (length old.values) now ≡ old
+unlisted old now inside left f = grown old now f.values f.stand
+
+-- the same behind one element more
+pub unlisted_more : (old now next : TypedValues) (inside left part : List ℕ) → Listed old now inside left → TakesElement now part next (Ok true) → trim (length old.values) next ≡ old
+unlisted_more old now next inside left part f taken = grown old next (f.values ++ taken.0 ∷ []) (fit_more old now next inside left part f taken).2
+
+pub untaken : (old now : TypedValues) → now ≡ old → trim (length old.values) now ≡ old
+untaken old now same = ap (trim (length old.values)) same ∙ (λ i. record { ty = old.ty; values = take_all (length old.values) old.values (omega arith) i })
 
 -- an array without elements
-pub listed_empty : (old : TypedValues) (text left : List ℕ) (ends : Option (Bor (List ℕ))) → text ≡ 91 ∷ 93 ∷ left → EndsField left ends →
-    (field : List ℕ) × IsFirstField text field ends × TakesElements old field old (Ok true)
-listed_empty old text left ends is h = (
+pub listed_empty : (old : TypedValues) (text left : List ℕ) (ends : Front) → text ≡ 91 ∷ 93 ∷ left → EndsField left ends → TakesFirst TakesElements old text old (Ok ends)
+listed_empty old text left (front.Taken ends) is h = (
   91 ∷ 93 ∷ [],
   first_by_end text (91 ∷ 93 ∷ []) left ends (refl, (refl, tt)) is h,
   ([], refl, ([], refl, tt), sym (λ i. record { ty = old.ty; values = append-nil old.values i })),
 )
-
-pub unlisted : (old now : TypedValues) (inside left : List ℕ) → Listed old now inside left → trim (length old.values) now ≡ old
-unlisted old now inside left f = ap (trim (length old.values)) f.stand ∙ (λ i. record { ty = old.ty; values = take_at old.values f.values (length old.values) refl i })
-
-pub untaken : (old now : TypedValues) → now ≡ old → trim (length old.values) now ≡ old
-untaken old now same = ap (trim (length old.values)) same ∙ (λ i. record { ty = old.ty; values = take_all (length old.values) old.values (omega arith) i })
+listed_empty old text left front.Irregular is h = untaken old old refl
 
 -- what the text of an array says
 token : (b : ℕ) → Token b (b ∷ [])
@@ -228,9 +241,9 @@ array_fits t vs h =
 pub list_longer : (old new : TypedValues) (field : List ℕ) → TakesElements old field new (Ok true) → length old.values ≤ length new.values
 list_longer old new field h = omega (arith, ap (λ c. length c.values) h.3, length-append old.values h.0)
 
-pub list_taken : (starts after : List ℕ) (old new : TypedValues) (field : List ℕ) (e : ℕ) → IsCut starts (length old.values) → after ≡ starts ++ e ∷ [] → e ≡ length new.values →
+list_filled : (starts after : List ℕ) (old new : TypedValues) (field : List ℕ) (e : ℕ) → IsCut starts (length old.values) → after ≡ starts ++ e ∷ [] → e ≡ length new.values →
     TakesElements old field new (Ok true) → TakesFilled (lists_seen starts old) field (lists_seen after new) (Ok true)
-list_taken starts after old new field e cut marked end h =
+list_filled starts after old new field e cut marked end h =
     let vs = h.0 in
     let count : e ≡ length old.values + length vs = omega (arith, end, ap (λ c. length c.values) h.3, length-append old.values vs) in (
       value.List vs,
@@ -239,3 +252,14 @@ list_taken starts after old new field e cut marked end h =
       (λ i. lists_seen (marked i) (h.3 i))
           ∙ (λ i. record { ty = ty.Arr old.ty; values = (ap (map value.List) (cuts_push starts old.values vs e cut count) ∙ map-append value.List (cuts starts old.values) (vs ∷ [])) i }),
     )
+
+-- an array isn't `\N`
+array_some : (field inside : List ℕ) → field ≡ 91 ∷ (inside ++ 93 ∷ []) → is_null field ≡ false
+array_some field [] is = ap is_null is
+array_some field (b ∷ []) is = ap is_null is
+array_some field (b ∷ c ∷ inside) is = ap is_null is
+
+pub list_taken : (starts after : List ℕ) (old new : TypedValues) (field : List ℕ) (e : ℕ) → IsCut starts (length old.values) → after ≡ starts ++ e ∷ [] → e ≡ length new.values →
+    TakesElements old field new (Ok true) → TakesField (lists_seen starts old) field (lists_seen after new) (Ok true)
+list_taken starts after old new field e cut marked end h =
+    filled_field (lists_seen starts old) (lists_seen after new) field (Ok true) (array_some field h.2.0 h.2.1) (list_filled starts after old new field e cut marked end h)

@@ -18,6 +18,7 @@ use Rattle.value_types.specs.declared.value.Value.TheVariants as value
 use Rattle.column_parts.specs.Cuts.{cuts}
 use Rattle.typed_columns.specs.TypedValues.{TypedValues}
 use Rattle.typed_columns.specs.Growth.{AllFit, Fits, trim, with_value, with_values}
+use Rattle.typed_columns.specs.Views.{number_ty}
 use Rattle.columns.specs.Rows.{Rows, RowFits, pushed, with_row}
 use Rattle.quick_rows.specs.declared.field.Front.{Front}
 use Rattle.quick_rows.specs.declared.field.Front.TheVariants as front
@@ -64,9 +65,10 @@ TakesText texts field after (Ok false) = after ≡ texts
 TakesText texts field after (Err fault) = after ≡ texts
 
 -- nothing follows a field, or a tab and what stands behind it
-abbrev pub EndsField : List ℕ → Option (Bor (List ℕ)) → Type 0
-EndsField left None = left ≡ []
-EndsField left (Some behind) = left ≡ 9 ∷ behind.now
+abbrev pub EndsField : List ℕ → Front → Type 0
+EndsField left front.Irregular = Unit {0}
+EndsField left (front.Taken None) = left ≡ []
+EndsField left (front.Taken (Some behind)) = left ≡ 9 ∷ behind.now
 
 -- the first field of a text, and what stands behind its tab, if it has one
 abbrev pub IsFirstField : List ℕ → List ℕ → Option (Bor (List ℕ)) → Type 0
@@ -93,16 +95,6 @@ TakesQuoted texts part after (Err fault) = after ≡ texts
 -- neither a quote nor a backslash, a comma or a tab
 abbrev pub is_bare : List ℕ → Bool
 is_bare text = list_all (λ b. not (b == 39) && not (b == 92) && not (b == 44) && not (b == 9)) text
-
--- the front of a text, with neither a comma nor a tab in it, and what stands behind it
-abbrev pub IsPart : List ℕ → List ℕ → List ℕ → Type 0
-IsPart text part behind = (text ≡ part ++ behind) × (0 < length part) × (list_all (λ b. not (b == 44) && not (b == 9)) part ≡ true)
-
--- the front is taken, and what stands behind it is told, or nothing is taken
-abbrev pub TakesFront : {Store : Type 0} → (Store → List ℕ → Store → Result Bool OutOfMemory → Type 0) → Store → List ℕ → Store → Result (Option (Bor (List ℕ))) OutOfMemory → Type 0
-TakesFront Takes store text after (Ok (Some behind)) = (part : List ℕ) × IsPart text part behind.now × Takes store part after (Ok true)
-TakesFront Takes store text after (Ok None) = Takes store text after (Ok false)
-TakesFront Takes store text after (Err fault) = Takes store text after (Err fault)
 
 -- a text inside an array says the value of an element
 abbrev pub SaysElement : Ty → List ℕ → Value → Type 0
@@ -132,7 +124,13 @@ TakesParts elements parts after (Ok true) = (vs : List Value) × AllFit elements
 TakesParts elements parts after (Ok false) = trim (length elements.values) after ≡ elements
 TakesParts elements parts after (Err fault) = trim (length elements.values) after ≡ elements
 
--- arrays of these elements
+-- numbers, strings and arrays as a column
+abbrev pub numbers_seen : NumberList → TypedValues
+numbers_seen n = record { ty = number_ty n.kind; values = map value.Num n.numbers }
+
+abbrev pub texts_seen : List (List ℕ) → TypedValues
+texts_seen texts = record { ty = ty.Str; values = map value.Bytes texts }
+
 abbrev pub lists_seen : List ℕ → TypedValues → TypedValues
 lists_seen starts elements = record { ty = ty.Arr elements.ty; values = map value.List (cuts starts elements.values) }
 

@@ -1,8 +1,8 @@
 //! The first field of a text into its column, in one pass.
-ghost use Rattle.std.specs.Prelude.{◌≡◌, ◌==◌, ◌∷◌, [], IfSome, length, slice_index};
+ghost use Rattle.std.specs.Prelude.{◌≡◌, ◌==◌, ◌∷◌, [], false, length, slice_index};
 ghost use Rattle.typed_columns.specs.Masks.{masked};
 ghost use Rattle.value_types.specs.declared.ty.Ty.TheVariants as ty;
-ghost use Rattle.quick_rows.specs.Taking.{EndsField, IsFirstField, TakesField, TakesFilled, TakesFirst, TakesNumber, TakesText};
+ghost use Rattle.quick_rows.specs.Taking.{EndsField, TakesField, TakesFilled, TakesFirst, TakesNumber, TakesText};
 
 use crate::list::take_list;
 use crate::number::front_number;
@@ -13,6 +13,7 @@ use typed_columns::{Column, Kind};
 use value_types::OutOfMemory;
 
 /// What became of the first field of a text.
+#[derive(Clone, Copy)]
 pub(crate) enum Front<'a> {
     /// It isn't regular, and the column is as before.
     Irregular,
@@ -20,9 +21,29 @@ pub(crate) enum Front<'a> {
     Taken(Option<&'a [u8]>),
 }
 
+// What takes a field is made part of its caller, so that a `Front` is never written to memory.
+
 /// Takes the first field of a text into its column, or leaves the column as it is.
-#[inline]
+#[inline(always)]
 pub(crate) fn take_first<'a>(
+    column: &mut Column,
+    alloc: Global,
+    text: &'a [u8],
+) -> Result<Front<'a>, OutOfMemory>
+    ensures { TakesFirst TakesField column.old text.now column.new result }
+{
+    match &mut column.kind {
+        Kind::Numbers(numbers) => return take_number(numbers, text),
+        Kind::Texts(texts) => return take_text(texts, text),
+        Kind::Lists(starts, elements) => return take_list(starts, elements, text),
+        Kind::Nullable(_, _) => {}
+        Kind::Maps(_, _, _) | Kind::Cells(_, _, _) => return Ok(Front::Irregular),
+    }
+    take_nullable(column, alloc, text)
+}
+
+#[inline(always)]
+fn take_nullable<'a>(
     column: &mut Column,
     alloc: Global,
     text: &'a [u8],
@@ -43,7 +64,8 @@ fn begins_with_backslash(text: &[u8]) -> bool
     matches!(text, [b'\\', ..])
 }
 
-/// The same of a field that begins with a backslash: it is `\N`, or irregular.
+/// The same of a field that is `\N`.
+#[inline(always)]
 fn take_null<'a>(
     column: &mut Column,
     alloc: Global,
@@ -51,7 +73,10 @@ fn take_null<'a>(
 ) -> Result<Front<'a>, OutOfMemory>
     ensures { TakesFirst TakesField column.old text.now column.new result }
 {
-    let Some(behind) = behind_null(text) else {
+    let [b'\\', b'N', left @ ..] = text else {
+        return Ok(Front::Irregular);
+    };
+    let Front::Taken(behind) = end_of_field(left) else {
         return Ok(Front::Irregular);
     };
     if let Kind::Nullable(_, _) = &column.kind {
@@ -61,31 +86,18 @@ fn take_null<'a>(
     Ok(Front::Irregular)
 }
 
-fn behind_null(text: &[u8]) -> Option<Option<&[u8]>>
-    ensures { IfSome result (λ behind. IsFirstField text.now (92 ∷ 78 ∷ []) behind) }
-{
-    match text {
-        [b'\\', b'N', left @ ..] => behind_field(left),
-        _ => None,
-    }
-}
-
 /// The same of any other field.
-#[cycle(filled)]
+#[inline(always)]
 fn take_filled<'a>(column: &mut Column, text: &'a [u8]) -> Result<Front<'a>, OutOfMemory>
     ensures { TakesFirst TakesFilled column.old text.now column.new result }
 {
-    match &mut column.kind {
-        Kind::Numbers(numbers) => return take_number(numbers, text),
-        Kind::Texts(texts) => return take_text(texts, text),
-        Kind::Nullable(mask, values) => return take_some(mask, values, text),
-        Kind::Lists(starts, elements) => return take_list(starts, elements, text),
-        Kind::Maps(_, _, _) | Kind::Cells(_, _, _) => return Ok(Front::Irregular),
+    if let Kind::Nullable(mask, values) = &mut column.kind {
+        return take_some(mask, values, text);
     }
+    Ok(Front::Irregular)
 }
 
-/// The same into a column that may hold NULL.
-#[cycle(filled)]
+#[inline(always)]
 fn take_some<'a>(
     mask: &mut Vec<bool>,
     values: &mut Column,
@@ -98,7 +110,7 @@ fn take_some<'a>(
         text.now (record { ty = ty.Nullable values.new.ty; values = masked mask.new.items values.new.values }) result }
 {
     mask.reserve(1)?;
-    match take_filled(values, text) {
+    match take_value(values, text) {
         Ok(Front::Taken(behind)) => {
             mask.push(false)?;
             Ok(Front::Taken(behind))
@@ -107,14 +119,27 @@ fn take_some<'a>(
     }
 }
 
-#[inline]
+/// Takes the value of a column that may hold NULL.
+#[inline(always)]
+fn take_value<'a>(values: &mut Column, text: &'a [u8]) -> Result<Front<'a>, OutOfMemory>
+    ensures { TakesFirst TakesFilled values.old text.now values.new result }
+{
+    match &mut values.kind {
+        Kind::Numbers(numbers) => return take_number(numbers, text),
+        Kind::Texts(texts) => return take_text(texts, text),
+        Kind::Nullable(_, _) | Kind::Lists(_, _) => return Ok(Front::Irregular),
+        Kind::Maps(_, _, _) | Kind::Cells(_, _, _) => return Ok(Front::Irregular),
+    }
+}
+
+#[inline(always)]
 fn take_number<'a>(numbers: &mut Numbers, text: &'a [u8]) -> Result<Front<'a>, OutOfMemory>
     ensures { TakesFirst TakesNumber numbers.old text.now numbers.new result }
 {
     let Some((number, left)) = front_number(text) else {
         return Ok(Front::Irregular);
     };
-    let Some(behind) = behind_field(left) else {
+    let Front::Taken(behind) = end_of_field(left) else {
         return Ok(Front::Irregular);
     };
     match numbers.take(number) {
@@ -124,7 +149,7 @@ fn take_number<'a>(numbers: &mut Numbers, text: &'a [u8]) -> Result<Front<'a>, O
     }
 }
 
-#[inline]
+#[inline(always)]
 fn take_text<'a>(texts: &mut Texts, text: &'a [u8]) -> Result<Front<'a>, OutOfMemory>
     ensures { TakesFirst TakesText texts.old text.now texts.new result }
 {
@@ -137,14 +162,14 @@ fn take_text<'a>(texts: &mut Texts, text: &'a [u8]) -> Result<Front<'a>, OutOfMe
     }
 }
 
-/// What stands behind the tab that ends a field, or nothing where the text ends it. `None` where another byte stands.
-#[inline]
-pub(crate) fn behind_field(left: &[u8]) -> Option<Option<&[u8]>>
-    ensures { IfSome result (λ behind. EndsField left.now behind) }
+/// What stands behind the tab that ends a field here, or nothing where the text ends it. Any other byte is irregular.
+#[inline(always)]
+pub(crate) fn end_of_field(left: &[u8]) -> Front<'_>
+    ensures { EndsField left.now result }
 {
     match left {
-        [] => Some(None),
-        [b'\t', behind @ ..] => Some(Some(behind)),
-        _ => None,
+        [] => Front::Taken(None),
+        [b'\t', behind @ ..] => Front::Taken(Some(behind)),
+        _ => Front::Irregular,
     }
 }

@@ -1,8 +1,15 @@
-use Rattle.std.proofs.Common.{arith}
-use Rattle.std.proofs.lemmas.Bool.Decides.{nat_tests}
-use Rattle.quick_rows.proofs.FirstLaws.{filled_first}
+use Rattle.std.proofs.Common.{ap, sym, ◌∙◌, subst}
+use Rattle.typed_columns.specs.Views.{view_of}
+use Rattle.quick_rows.specs.Taking.{TakesField, TakesFirst, numbers_seen, texts_seen}
+use Rattle.quick_rows.proofs.FirstLaws.{numbers_field, texts_field}
 use Rattle.quick_rows.proofs.field.take_first.Goals as goal
 
-pub returns-else-begins_with_backslash : goal.returns-else-begins_with_backslash
-returns-else-begins_with_backslash c =
-    filled_first c.args.column.now c.take_filled.new.column c.args.text.now c.take_filled.result (grind (arith, nat_tests)) c.take_filled.ensures
+pub returns-in-Numbers : goal.returns-in-Numbers
+returns-in-Numbers c =
+    subst (λ x. TakesFirst TakesField x c.args.text.now (numbers_seen c.take_number.new.numbers) c.take_number.result) (ap view_of (sym c.in-Numbers.is) ∙ c.column.view_is)
+    (numbers_field c.in-Numbers.numbers c.take_number.new.numbers c.args.text.now c.take_number.result c.take_number.ensures)
+
+pub returns-in-Texts : goal.returns-in-Texts
+returns-in-Texts c =
+    subst (λ x. TakesFirst TakesField x c.args.text.now (texts_seen c.take_text.new.texts) c.take_text.result) (ap view_of (sym c.in-Texts.is) ∙ c.column.view_is)
+    (texts_field c.in-Texts.texts c.take_text.new.texts c.args.text.now c.take_text.result c.take_text.ensures)

@@ -15,6 +15,6 @@ returns-in-Ok-true c =
     let whole : to_z w128 (of_z w128 c.in-Some.number) ≡ c.in-Some.number = search rules in
     let took = subst (λ b. Took c.args.numbers.now c.in-Some.number c.take.new.self (Ok b)) c.in-Ok-true.field-0-test (subst (λ z. Took c.args.numbers.now z c.take.new.self (Ok c.in-Ok-true.field-0)) whole c.in-Ok-true.ensures) in (
       found.0,
-      part_field text found.0 left c.in-Some-behind_field.behind (number_part text found.0 left found.1 found.2) c.in-Some-behind_field.ensures,
+      part_field text found.0 left c.in-Taken.behind (number_part text found.0 left found.1 found.2) c.in-Taken.ensures,
       number_taken c.args.numbers.now c.take.new.self found.0 c.in-Some.number (Ok true) found.2 found.3 took,
     )
