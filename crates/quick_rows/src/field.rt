@@ -36,12 +36,12 @@ pub(crate) fn take_first<'a>(
         Kind::Numbers(numbers) => return take_number(numbers, text),
         Kind::Texts(texts) => return take_text(texts, text),
         Kind::Lists(starts, elements) => return take_list(starts, elements, text),
-        Kind::Nullable(_, _) => {}
-        Kind::Maps(_, _, _) | Kind::Cells(_, _, _) => return Ok(Front::Irregular),
+        Kind::Nullable(_, _) | Kind::Maps(_, _, _) | Kind::Cells(_, _, _) => {}
     }
     take_nullable(column, alloc, text)
 }
 
+/// The same of a column that may hold NULL. Any other is left as it is.
 #[inline(always)]
 fn take_nullable<'a>(
     column: &mut Column,
