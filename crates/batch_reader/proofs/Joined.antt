@@ -129,6 +129,7 @@ columns-typed place (t ∷ types) rows fits = (values-fit rows fits, columns-typ
     values-fit : (rows : List (List Value)) → AllByRecursion (λ row. RowFits (t ∷ types) (drop place row)) rows → AllFit t (column_at place rows)
     values-fit [] fits = refl
     values-fit (row ∷ rows) fits = both_true (first-fits t types place row (drop place row) refl fits.0) (values-fit rows fits.1)
+
     rest : (rows : List (List Value)) → AllByRecursion (λ row. RowFits (t ∷ types) (drop place row)) rows → AllByRecursion (λ row. RowFits types (drop (suc place) row)) rows
     rest [] fits = tt
     rest (row ∷ rows) fits = (rest-fits t types place row fits.0, rest rows fits.1)
