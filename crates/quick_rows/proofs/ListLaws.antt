@@ -169,13 +169,6 @@ listed_all old now next inside left part behind after front.Irregular f cut brac
     let more = fit_more old now next inside left part f taken in
     grown old next (f.values ++ taken.0 ∷ []) more.2
 
-pub unlisted : (old now : TypedValues) (inside left : List ℕ) → Listed old now inside left → trim (length old.values) now ≡ old
-unlisted old now inside left f = grown old now f.values f.stand
-
--- the same behind one element more
-pub unlisted_more : (old now next : TypedValues) (inside left part : List ℕ) → Listed old now inside left → TakesElement now part next (Ok true) → trim (length old.values) next ≡ old
-unlisted_more old now next inside left part f taken = grown old next (f.values ++ taken.0 ∷ []) (fit_more old now next inside left part f taken).2
-
 pub untaken : (old now : TypedValues) → now ≡ old → trim (length old.values) now ≡ old
 untaken old now same = ap (trim (length old.values)) same ∙ (λ i. record { ty = old.ty; values = take_all (length old.values) old.values (omega arith) i })
 

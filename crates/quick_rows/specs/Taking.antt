@@ -118,12 +118,6 @@ AreElements ty _ _ = ⊥
 abbrev pub IsArrayText : Ty → List ℕ → List Value → Type 0
 IsArrayText ty field vs = (inside : List ℕ) × (field ≡ 91 ∷ (inside ++ 93 ∷ [])) × AreElements ty (parts_of inside) vs
 
--- the elements that the parts say stand at the column's end, or its first values are as before
-abbrev pub TakesParts : TypedValues → List (List ℕ) → TypedValues → Result Bool OutOfMemory → Type 0
-TakesParts elements parts after (Ok true) = (vs : List Value) × AllFit elements.ty vs × AreElements elements.ty parts vs × (after ≡ with_values elements vs)
-TakesParts elements parts after (Ok false) = trim (length elements.values) after ≡ elements
-TakesParts elements parts after (Err fault) = trim (length elements.values) after ≡ elements
-
 -- numbers, strings and arrays as a column
 abbrev pub numbers_seen : NumberList → TypedValues
 numbers_seen n = record { ty = number_ty n.kind; values = map value.Num n.numbers }
