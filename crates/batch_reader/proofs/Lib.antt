@@ -4,4 +4,5 @@ mod Lanes
 mod Joined
 mod Cut
 mod Crossing
+mod Places
 mod Blocks

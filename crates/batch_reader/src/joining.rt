@@ -6,9 +6,9 @@ ghost use Rattle.columns.specs.Rows.{AreLong, joined, with_rows};
 ghost use Rattle.batch_reader.specs.Pieces.{AreOf, rows_in};
 ghost use Rattle.batch_reader.specs.Joining.{AreFit, JoinsColumn, columns_of};
 
+use crate::apart::{for_each_apart, threads_for};
 use crate::lane::Lane;
 use columns::{Batch, Column, trim_each};
-use rayon::prelude::*;
 use std::alloc::Global;
 use std::thread::Threads;
 use value_types::OutOfMemory;
@@ -64,14 +64,11 @@ fn join_columns<H: Threads + Sync>(
     ensures ok { OnOk result (columns.new.items ≡ joined columns.old.items (columns_of (map (λ column. column.ty) columns.old.items) (rows_in lanes.now))) }
     ensures err { OnErr result (columns.new.items ≡ columns.old.items) }
 {
-    par_for_each_mut(
-        rt,
-        columns,
-        |place: usize, column: &mut Column|
-            requires { All (λ lane. slice_get lane.rows.types place ≡ Some column.old.ty) lanes.now }
-            ensures { JoinsColumn place (rows_in lanes.entry.now) column.old column.new }
-        { join_column(alloc, lanes, place, column) },
-    );
+    let join = |place: usize, column: &mut Column|
+        requires { All (λ lane. slice_get lane.rows.types place ≡ Some column.old.ty) lanes.now }
+        ensures { JoinsColumn place (rows_in lanes.entry.now) column.old column.new }
+    { join_column(alloc, lanes, place, column) };
+    for_each_apart(rt, threads_for(lanes.len()), &join, columns);
     if are_long(columns, total) {
         return Ok(());
     }

@@ -2,6 +2,7 @@
 //! others to the slow judge, from whom alone refusals come. specs/Reading.antt says what is answered of an input.
 #![tactic(auto)]
 
+mod apart;
 mod fault;
 mod joining;
 mod lane;

@@ -5,10 +5,10 @@ ghost use Rattle.row_texts.specs.Rows.{AreReadable};
 ghost use Rattle.batch_reader.specs.Pieces.{AreOf, HasPiece, is_refused, lines_in};
 ghost use Rattle.batch_reader.specs.Pushing.{PushesText};
 
+use crate::apart::{for_each_apart, threads_for};
 use crate::joining::join_lanes;
 use crate::lane::Lane;
 use columns::Batch;
-use rayon::prelude::*;
 use row_texts::LineRefusal;
 use std::alloc::Global;
 use std::mem;
@@ -50,17 +50,14 @@ fn fill_lanes<H: Threads + Sync, R: StateReader + Sync>(
     ensures filled { AllZip (λ text lane. HasPiece (R.reads reader.now) types.now text.now lane) pieces.now lanes.new }
     ensures types { AreOf types.now lanes.new }
 {
-    par_for_each_mut(
-        rt,
-        lanes,
-        |i: usize, lane: &mut Lane|
-            requires few { length types.now < 2 ^ 32 }
-            requires readable { AreReadable (R.takes reader.now) types.now }
-            requires types { lane.old.rows.types ≡ types.now }
-            requires within { i < length pieces.now }
-            ensures { HoldsAt (λ text. HasPiece (R.reads reader.entry.now) types.entry.now text.now lane.new) pieces.entry.now i }
-        { lane.fill(alloc, reader, types, pieces[i]) },
-    );
+    let fill = |i: usize, lane: &mut Lane|
+        requires few { length types.now < 2 ^ 32 }
+        requires readable { AreReadable (R.takes reader.now) types.now }
+        requires types { lane.old.rows.types ≡ types.now }
+        requires within { i < length pieces.now }
+        ensures { HoldsAt (λ text. HasPiece (R.reads reader.entry.now) types.entry.now text.now lane.new) pieces.entry.now i }
+    { lane.fill(alloc, reader, types, pieces[i]) };
+    for_each_apart(rt, threads_for(lanes.len()), &fill, lanes);
 }
 
 // The place of the first lane whose piece has a refused line.

@@ -8,21 +8,21 @@ use Rattle.batch_reader.specs.declared.lane.Lane.{Lane}
 use Rattle.batch_reader.proofs.Lanes.{zip-each, zip-types}
 use Rattle.batch_reader.proofs.Crossing.{column-send}
 use Rattle.batch_reader.proofs.parallel.fill_lanes.Given.{Over}
-use Rattle.batch_reader.proofs.parallel.fill_lanes.Goals.{After-par_for_each_mut}
+use Rattle.batch_reader.proofs.parallel.fill_lanes.Goals.{After-for_each_apart}
 use Rattle.batch_reader.proofs.parallel.fill_lanes.Goals as goal
 
-pub par_for_each_mut-requires-send-T : goal.par_for_each_mut-requires-send-T
-par_for_each_mut-requires-send-T g c κs within = search (sendable, crosses, column-send) depth 60 fits 4000
+pub for_each_apart-requires-send-T : goal.for_each_apart-requires-send-T
+for_each_apart-requires-send-T g c κs within = search (sendable, crosses, column-send) depth 60 fits 4000
 
-filled : (g : Over) (c : After-par_for_each_mut g) → AllZip (λ (text : Bor (List ℕ)) (lane : Lane). HasPiece (g.R.StateReader.reads c.args.reader.now) c.args.types.now text.now lane) c.args.pieces.now c.par_for_each_mut.new.s
+filled : (g : Over) (c : After-for_each_apart g) → AllZip (λ (text : Bor (List ℕ)) (lane : Lane). HasPiece (g.R.StateReader.reads c.args.reader.now) c.args.types.now text.now lane) c.args.pieces.now c.for_each_apart.new.items
 filled g c =
     let Has = λ (text : Bor (List ℕ)) (lane : Lane). HasPiece (g.R.StateReader.reads c.args.reader.now) c.args.types.now text.now lane in
-    zip-each Has c.args.pieces.now c.par_for_each_mut.new.s (c.par_for_each_mut.auto.s ∙ c.requires.same) (λ i d within.
-    let at = (c.par_for_each_mut.ensures i d (omega (arith, within, c.par_for_each_mut.auto.s))).1 in
+    zip-each Has c.args.pieces.now c.for_each_apart.new.items (c.for_each_apart.auto.items ∙ c.requires.same) (λ i d within.
+    let at = (c.for_each_apart.ensures i d (omega (arith, within, c.for_each_apart.auto.items))).1 in
     subst (λ (lane : Lane). HoldsAt (λ text. Has text lane) c.args.pieces.now i) at.left at.call)
 
 pub returns-clause-filled : goal.returns-clause-filled
 returns-clause-filled g c = filled g c.before
 
 pub returns-clause-types : goal.returns-clause-types
-returns-clause-types g c = zip-types (g.R.StateReader.reads c.args.reader.now) c.args.types.now c.args.pieces.now c.par_for_each_mut.new.s (filled g c.before)
+returns-clause-types g c = zip-types (g.R.StateReader.reads c.args.reader.now) c.args.types.now c.args.pieces.now c.for_each_apart.new.items (filled g c.before)
