@@ -9,10 +9,11 @@ ghost use Rattle.std.specs.Prelude.{◌≡◌, ◌+◌, ◌<◌, length};
 mod draws;
 mod reading;
 
+use agg_ports::WholeSource;
 use columns::{Args, Batch, Column, Item};
 use draws::text_of;
 use quick_rows::{Taken, first_line, take_row};
-use reading::rows_in;
+use reading::rows_of;
 use std::alloc::Global;
 use std::time::Instant;
 use std::{env, io};
@@ -158,9 +159,14 @@ fn main(rt: HostRuntime) -> io::Result<()> {
         let Ok(bytes) = text.as_slice().to_vec(rt.alloc()) else {
             return Ok(());
         };
+        let mut source = WholeSource::new(bytes);
         let start = Instant::now(&rt)?;
-        let rows = rows_in(&rt, rt.alloc(), bytes, pieces);
+        let read = rows_of(&rt, rt.alloc(), &mut source, pieces);
         let reading = start.elapsed(&rt)?.as_micros();
+        let rows = match &read {
+            Some(batch) => batch.len(),
+            None => 0,
+        };
         println!(&rt; "{rows} rows of a source in {reading} us")?;
     }
     Ok(())
