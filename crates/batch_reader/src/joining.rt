@@ -68,7 +68,7 @@ fn join_columns<H: Threads + Sync>(
         requires { All (λ lane. slice_get lane.rows.types place ≡ Some column.old.ty) lanes.now }
         ensures { JoinsColumn place (rows_in lanes.entry.now) column.old column.new }
     { join_column(alloc, lanes, place, column) };
-    for_each_apart(rt, threads_for(lanes.len()), &join, columns);
+    for_each_apart(rt, threads_for(lanes.len()), &join, &mut || (), columns);
     if are_long(columns, total) {
         return Ok(());
     }

@@ -57,7 +57,7 @@ fn fill_lanes<H: Threads + Sync, R: StateReader + Sync>(
         requires within { i < length pieces.now }
         ensures { HoldsAt (λ text. HasPiece (R.reads reader.entry.now) types.entry.now text.now lane.new) pieces.entry.now i }
     { lane.fill(alloc, reader, types, pieces[i]) };
-    for_each_apart(rt, threads_for(lanes.len()), &fill, lanes);
+    for_each_apart(rt, threads_for(lanes.len()), &fill, &mut || (), lanes);
 }
 
 // The place of the first lane whose piece has a refused line.

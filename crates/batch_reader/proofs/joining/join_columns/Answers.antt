@@ -27,7 +27,7 @@ returns-then-are_long-clause-ok g c =
     let long : length ds ≡ length cs = c.for_each_apart.auto.items ∙ ap length same in
     let written = take_at ds (drop (length ds) cs) c.args.columns.now.len (omega (arith, long, c.args.columns.now.ok)) in
     let all = subst (All (λ (d : TypedValues). length d.values ≡ c.args.total)) (c.deref.ensures.value ∙ written) (c.if-are_long.ensures.0 refl) in
-    let each = each-joins rows cs c.deref_mut.result.now ds same (λ i d within. let at = (c.for_each_apart.ensures i d within).1 in (at.argument.now, at.after_call.now, at.call, at.argument_is, at.left)) in
+    let each = each-joins rows cs c.deref_mut.result.now ds same (λ i d within. let at = (c.for_each_apart.ensures.items i d within).1 in (at.argument.now, at.after_call.now, at.call, at.argument_is, at.left)) in
     written ∙ joined-each 0 c.args.count c.args.total rows cs ds long c.requires.long c.requires.total all each
 
 pub returns-clause-err : goal.returns-clause-err
@@ -38,5 +38,5 @@ returns-clause-err g c =
     let same = c.deref_mut.ensures.value in
     let long : length ds ≡ length cs = c.for_each_apart.auto.items ∙ ap length same in
     let written = take_at ds (drop (length ds) cs) c.args.columns.now.len (omega (arith, long, c.args.columns.now.ok)) in
-    let each = each-joins rows cs c.deref_mut.result.now ds same (λ i d within. let at = (c.for_each_apart.ensures i d within).1 in (at.argument.now, at.after_call.now, at.call, at.argument_is, at.left)) in
+    let each = each-joins rows cs c.deref_mut.result.now ds same (λ i d within. let at = (c.for_each_apart.ensures.items i d within).1 in (at.argument.now, at.after_call.now, at.call, at.argument_is, at.left)) in
     c.trim_each.ensures ∙ ap (map (trim c.args.count)) written ∙ trimmed-each 0 c.args.count rows cs ds long c.requires.long each

@@ -18,7 +18,7 @@ filled : (g : Over) (c : After-for_each_apart g) → AllZip (λ (text : Bor (Lis
 filled g c =
     let Has = λ (text : Bor (List ℕ)) (lane : Lane). HasPiece (g.R.StateReader.reads c.args.reader.now) c.args.types.now text.now lane in
     zip-each Has c.args.pieces.now c.for_each_apart.new.items (c.for_each_apart.auto.items ∙ c.requires.same) (λ i d within.
-    let at = (c.for_each_apart.ensures i d (omega (arith, within, c.for_each_apart.auto.items))).1 in
+    let at = (c.for_each_apart.ensures.items i d (omega (arith, within, c.for_each_apart.auto.items))).1 in
     subst (λ (lane : Lane). HoldsAt (λ text. Has text lane) c.args.pieces.now i) at.left at.call)
 
 pub returns-clause-filled : goal.returns-clause-filled
