@@ -241,17 +241,17 @@ refuses-at reads types left mid now first ahead after batch block stops so_far o
       };
     }
 
-pub read-refused : (reads : ReadsStates) (types : List Ty) (left mid now : Option (List ℕ)) (first ahead after : Ahead) (batch next : Rows) (block : List ℕ) (stops : Stop)
+pub read-refused : (reads : ReadsStates) (types : List Ty) (left mid now last : Option (List ℕ)) (first ahead after : Ahead) (batch next : Rows) (block : List ℕ) (stops : Stop)
     → IsReadTo reads types left mid first ahead batch stop.More → ReadsBlock mid now ahead after block stops
-    → (f : RowFault) → PushesBlock reads batch (lines_of block) next (Err f) → ReadsRows reads types left now first (Err f)
-read-refused reads types left mid now first ahead after batch next block stops so_far one f pushed = record {
+    → (f : RowFault) → PushesBlock reads batch (lines_of block) next (Err f) → ReadsRows reads types left last first (Err f)
+read-refused reads types left mid now last first ahead after batch next block stops so_far one f pushed = record {
   input = (so_far.front ++ block) ++ one.rest;
   from = subst (IsInput left first) (sym (append_assoc so_far.front block one.rest))
       (input-read reads types left mid first ahead batch stop.More so_far (block ++ one.rest) (input-before mid now ahead after one.taken block one.rest one.moved one.consumed one.to));
   reading = by_fault f pushed;
 }
   where
-    by_fault : (f : RowFault) → PushesBlock reads batch (lines_of block) next (Err f) → IsReading reads types now first ((so_far.front ++ block) ++ one.rest) (Err f)
+    by_fault : (f : RowFault) → PushesBlock reads batch (lines_of block) next (Err f) → IsReading reads types last first ((so_far.front ++ block) ++ one.rest) (Err f)
     by_fault (fault.Row row column why) p = refuses-at reads types left mid now first ahead after batch block stops so_far one row (line.Field column why) p
     by_fault (fault.FieldCount row want have) p = refuses-at reads types left mid now first ahead after batch block stops so_far one row (line.FieldCount want have) p
     by_fault (fault.TooLong row) p = absurd p

@@ -17,7 +17,7 @@ use Rattle.scalar_texts.specs.States.{ReadsStates}
 use Rattle.row_texts.specs.Rows.{AreRows}
 use Rattle.row_texts.specs.declared.refusal.LineRefusal.{LineRefusal}
 use Rattle.row_texts.specs.declared.refusal.LineRefusal.TheVariants as line
-use Rattle.batch_reader.specs.Pieces.{AreOf, HasPiece, is_refused, lines_in, rows_in}
+use Rattle.batch_reader.specs.Pieces.{AreOf, HasLines, HasPiece, is_refused, lines_in, rows_in}
 use Rattle.batch_reader.specs.Pushing.{PushesLines, PushesText, StopsBefore}
 use Rattle.batch_reader.specs.declared.lane.Lane.{Lane}
 use Rattle.batch_reader.proofs.Pushed.{rows-append}
@@ -86,17 +86,16 @@ no-place true x e = absurd cc
 no-place false x e = refl
 
 -- no piece has a refused line
-pub all-pushed : (reads : ReadsStates) (batch after : Rows) (types : List Ty) (texts : List (Bor (List ℕ))) (lanes : List Lane) (found : Option ℕ)
-    → AllZip (λ (text : Bor (List ℕ)) (it : Lane). HasPiece reads types text.now it) texts lanes → found ≡ position is_refused lanes → found ≡ None
-    → batch.types ≡ types → after ≡ with_rows batch (rows_in lanes) → PushesText reads batch (lines_in texts) after (Ok tt)
-all-pushed reads batch after types texts lanes found all found_is none same after_is =
+pub all-pushed : (reads : ReadsStates) (batch after : Rows) (lines : List (List ℕ)) (lanes : List Lane) (found : Option ℕ)
+    → HasLines reads batch.types lines lanes → found ≡ position is_refused lanes → found ≡ None → after ≡ with_rows batch (rows_in lanes) → PushesText reads batch lines after (Ok tt)
+all-pushed reads batch after lines lanes found has found_is none after_is =
     let count = position_or_len is_refused lanes in
     let past = ltb-false count (length lanes) (no-place (nat_lt count (length lanes)) count (sym found_is ∙ none)) in
-    let long = zip-length (λ (text : Bor (List ℕ)) (it : Lane). HasPiece reads types text.now it) texts lanes all in
-    let front = front-rows reads types texts lanes (length lanes) all past in
-    let whole = subst (λ (ts : List (Bor (List ℕ))). AreRows reads types (lines_in ts) (rows_in (take (length lanes) lanes))) (take_all (length lanes) texts (omega (arith, long))) front in
-    let rows = subst (λ (ls : List Lane). AreRows reads types (lines_in texts) (rows_in ls)) (take_all (length lanes) lanes (omega arith)) whole in
-    (rows_in lanes, subst (λ (ts : List Ty). AreRows reads ts (lines_in texts) (rows_in lanes)) (sym same) rows, after_is)
+    let long = zip-length (λ (text : Bor (List ℕ)) (it : Lane). HasPiece reads batch.types text.now it) has.pieces lanes has.each in
+    let front = front-rows reads batch.types has.pieces lanes (length lanes) has.each past in
+    let whole = subst (λ (ts : List (Bor (List ℕ))). AreRows reads batch.types (lines_in ts) (rows_in (take (length lanes) lanes))) (take_all (length lanes) has.pieces (omega (arith, long))) front in
+    let rows = subst (λ (ls : List Lane). AreRows reads batch.types (lines_in has.pieces) (rows_in ls)) (take_all (length lanes) lanes (omega arith)) whole in
+    (rows_in lanes, subst (λ (ls : List (List ℕ)). AreRows reads batch.types ls (rows_in lanes)) has.split rows, after_is)
 
 -- the piece at a place has the first refused line
 stops-at : (reads : ReadsStates) (batch after : Rows) (texts : List (Bor (List ℕ))) (lanes : List Lane) (place : ℕ) (lane : Lane) (refusal : LineRefusal)
@@ -124,25 +123,34 @@ stops-at reads batch after texts lanes place lane refusal at front refused after
       refused = stops.refused;
     }
 
-text-stops : (reads : ReadsStates) (batch after : Rows) (lines : List (List ℕ)) (pushed : Result (Unit {0}) LineRefusal) → is_err pushed ≡ true
-    → ((refusal : LineRefusal) → pushed ≡ Err refusal → StopsBefore reads batch after lines refusal) → PushesText reads batch lines after pushed
-text-stops reads batch after lines (Ok done) refused stops = absurd cc
-text-stops reads batch after lines (Err (line.FieldCount want have)) refused stops = stops (line.FieldCount want have) refl
-text-stops reads batch after lines (Err (line.Field column fault)) refused stops = stops (line.Field column fault) refl
-text-stops reads batch after lines (Err line.OutOfMemory) refused stops = tt
+text-stops : (reads : ReadsStates) (batch after : Rows) (lines : List (List ℕ)) (refusal : LineRefusal) → StopsBefore reads batch after lines refusal → PushesText reads batch lines after (Err refusal)
+text-stops reads batch after lines (line.FieldCount want have) stops = stops
+text-stops reads batch after lines (line.Field column fault) stops = stops
+text-stops reads batch after lines line.OutOfMemory stops = tt
 
-pub first-refused : (reads : ReadsStates) (batch after : Rows) (types : List Ty) (texts : List (Bor (List ℕ))) (lanes : List Lane) (found : Option ℕ) (place : ℕ) (lane : Lane)
-    → AllZip (λ (text : Bor (List ℕ)) (it : Lane). HasPiece reads types text.now it) texts lanes → found ≡ position is_refused lanes → found ≡ Some place → lane ≡ get_or lanes place lane
-    → batch.types ≡ types → after ≡ with_rows batch (rows_in (take (suc place) lanes)) → PushesText reads batch (lines_in texts) after lane.pushed
-first-refused reads batch after types texts lanes found place lane all found_is at_place lane_is same after_is =
+pub first-refused : (reads : ReadsStates) (batch after : Rows) (lines : List (List ℕ)) (lanes : List Lane) (found : Option ℕ) (place : ℕ) (lane : Lane) (refusal : LineRefusal)
+    → HasLines reads batch.types lines lanes → found ≡ position is_refused lanes → found ≡ Some place → lane ≡ get_or lanes place lane → lane.pushed ≡ Err refusal
+    → after ≡ with_rows batch (rows_in (take (place + 1) lanes)) → PushesText reads batch lines after (Err refusal)
+first-refused reads batch after lines lanes found place lane refusal has found_is at_place lane_is refused after_is =
     let count = position_or_len is_refused lanes in
     let some = cond_some (nat_lt count (length lanes)) count place (sym found_is ∙ at_place) in
     let within = ltb-true count (length lanes) some.0 in
-    let refused : is_refused lane ≡ true = ap is_refused (lane_is ∙ ap (λ (k : ℕ). get_or lanes k lane) (sym some.1)) ∙ passes_at_first is_refused lanes lane within in
-    let of_batch = subst (λ (ts : List Ty). AllZip (λ (text : Bor (List ℕ)) (it : Lane). HasPiece reads ts text.now it) texts lanes) (sym same) all in
-    let at = pick reads batch.types texts lanes place lane of_batch (omega (arith, within, some.1)) lane_is in
-    let front = front-rows reads batch.types texts lanes place of_batch (omega (arith, some.1)) in
-    text-stops reads batch after (lines_in texts) lane.pushed refused (λ refusal is. stops-at reads batch after texts lanes place lane refusal at front is after_is)
+    let at = pick reads batch.types has.pieces lanes place lane has.each (omega (arith, within, some.1)) lane_is in
+    let front = front-rows reads batch.types has.pieces lanes place has.each (omega (arith, some.1)) in
+    let next : place + 1 ≡ suc place = omega arith in
+    let joined = after_is ∙ ap (λ (n : ℕ). with_rows batch (rows_in (take n lanes))) next in
+    subst (λ (ls : List (List ℕ)). PushesText reads batch ls after (Err refusal)) has.split
+    (text-stops reads batch after (lines_in has.pieces) refusal (stops-at reads batch after has.pieces lanes place lane refusal at front refused joined))
+
+pub found-refused : (lanes : List Lane) (found : Option ℕ) (place : ℕ) (lane : Lane) (pushed : Result (Unit {0}) LineRefusal)
+    → found ≡ position is_refused lanes → found ≡ Some place → pushed ≡ (get_or lanes place lane).pushed → pushed ≡ Ok tt → ⊥
+found-refused lanes found place lane pushed found_is at_place pushed_is done =
+    let count = position_or_len is_refused lanes in
+    let some = cond_some (nat_lt count (length lanes)) count place (sym found_is ∙ at_place) in
+    let within = ltb-true count (length lanes) some.0 in
+    let refused : is_err pushed ≡ true = ap is_err pushed_is ∙ ap (λ (k : ℕ). is_refused (get_or lanes k lane)) (sym some.1) ∙ passes_at_first is_refused lanes lane within in
+    let whole : is_err pushed ≡ false = ap is_err done in
+    absurd cc
 
 -- a lane is of the types that its piece was read as
 types-pushed : (reads : ReadsStates) (types : List Ty) (lines : List (List ℕ)) (after : Rows) (pushed : Result (Unit {0}) LineRefusal) → PushesLines reads (no_rows types) lines after pushed → after.types ≡ types

@@ -6,3 +6,4 @@ mod Cut
 mod Crossing
 mod Places
 mod Blocks
+mod Pending

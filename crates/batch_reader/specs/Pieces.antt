@@ -1,5 +1,6 @@
 -- A text in pieces of whole lines, each read into a lane of its own.
 use Rattle.std.specs.Prelude.{◌≡◌, ℕ, Bool, List, [], ◌∷◌, ◌++◌, All, flat_map, is_err}
+use Rattle.std.specs.List.{AllZip}
 use denote.Ref.{Bor}
 use Rattle.value_types.specs.declared.ty.Ty.{Ty}
 use Rattle.value_types.specs.declared.value.Value.{Value}
@@ -17,6 +18,12 @@ lines_in (piece ∷ pieces) = lines_of piece.now ++ lines_in pieces
 -- the lane has the piece's rows and no others, up to its first refused line
 abbrev pub HasPiece : ReadsStates → List Ty → List ℕ → Lane → Type 0
 HasPiece reads types text lane = PushesLines reads (no_rows types) (lines_of text) lane.rows lane.pushed
+
+-- the lines are those of pieces, and each lane has one of them
+pub record HasLines (reads : ReadsStates) (types : List Ty) (lines : List (List ℕ)) (lanes : List Lane) : Type 0 where
+  pub pieces : List (Bor (List ℕ))
+  pub split : lines_in pieces ≡ lines
+  pub each : AllZip (λ text lane. HasPiece reads types text.now lane) pieces lanes
 
 -- lanes whose rows are of these types
 abbrev pub AreOf : List Ty → List Lane → Type 0

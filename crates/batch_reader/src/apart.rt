@@ -102,13 +102,7 @@ pub(crate) fn for_each_apart<
     F: Fn(usize, &mut T) + Sync,
     G: FnMut() -> B,
     B,
->(
-    rt: &R,
-    threads: usize,
-    f: &F,
-    meanwhile: &mut G,
-    items: &mut [T],
-) -> B
+>(rt: &R, threads: usize, f: &F, meanwhile: &mut G, items: &mut [T]) -> B
     requires threads { 0 < threads }
     requires accepts { AcceptsEach F.Fn f.now items.old }
     requires meanwhile { G.pre meanwhile.old }

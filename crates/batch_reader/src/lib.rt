@@ -4,9 +4,9 @@
 
 mod apart;
 mod fault;
+mod filling;
 mod joining;
 mod lane;
-mod parallel;
 mod pieces;
 mod pushing;
 mod reading;

@@ -1,6 +1,10 @@
 //! All rows of an input, block by block.
-ghost use Rattle.std.specs.Prelude.{◌≡◌, ◌+◌, ◌<◌, ◌^◌, length, IfOk};
+ghost use Rattle.std.specs.Prelude.{◌≡◌, ℕ, ◌+◌, ◌<◌, ◌^◌, length, List, IfErr, IfOk, OnOk, Ok, Err};
 ghost use Rattle.tsv_text.specs.Lines.{lines_of};
+ghost use Rattle.columns.specs.Rows.{Rows};
+ghost use Rattle.line_reader.specs.Answers.{ReadsBlock};
+ghost use Rattle.line_reader.specs.Filling.{FillCause};
+ghost use Rattle.scalar_texts.specs.States.{ReadsStates};
 ghost use Rattle.row_texts.specs.Rows.{AreReadable};
 ghost use Rattle.batch_reader.specs.Pieces.{AreOf};
 ghost use Rattle.batch_reader.specs.Pushing.{PushesBlock, PushesText};
@@ -8,9 +12,9 @@ ghost use Rattle.batch_reader.specs.Reading.{ReadsRows, RowCause, types_of};
 
 use crate::RowFault;
 use crate::fault::fault_of;
+use crate::filling::fill_block;
+use crate::joining::join_block;
 use crate::lane::Lane;
-use crate::parallel::push_pieces;
-use crate::pieces::cut;
 use crate::pushing::push_lines;
 use crate::schema_types::types_of;
 use agg_defs::Schema;
@@ -44,8 +48,30 @@ impl Cutting {
     }
 }
 
-// Adds the rows of the lines of a block to a batch, up to the first that is refused. Where the block is long enough its pieces are read side by
-// side.
+// The number of the next row.
+fn next_number(batch: &Batch) -> Result<u64, OutOfMemory>
+    ensures { IfOk result (λ number. number ≡ length batch.now.rows + 1) }
+{
+    let count = batch.len();
+    if count == usize::MAX {
+        return Err(OutOfMemory);
+    }
+    Ok(count as u64 + 1)
+}
+
+// Why the line behind the rows of a batch is refused, as its row.
+#[tactic(auto, using(crate::proofs::Blocks::block_laws))]
+fn refused_behind(batch: &Batch, refusal: LineRefusal) -> RowFault
+    ensures { (reads : ReadsStates) (before : Rows) (lines : List (List ℕ)) → PushesText reads before lines batch.now (Err refusal) → PushesBlock reads before lines batch.now (Err result) }
+{
+    match next_number(batch) {
+        Ok(number) => fault_of(number, refusal),
+        Err(_) => RowFault::OutOfMemory,
+    }
+}
+
+// Adds the rows of the lines of the last block to a batch, up to the first that is refused. Where the block is long enough its pieces are read
+// side by side.
 #[tactic(auto, using(crate::proofs::Blocks::text_laws))]
 fn push_text<H: Threads + Sync, R: StateReader + Sync>(
     rt: &H,
@@ -61,31 +87,19 @@ fn push_text<H: Threads + Sync, R: StateReader + Sync>(
     requires readable { AreReadable (R.takes reader.now) types.now }
     requires types { batch.old.types ≡ types.now }
     requires lanes { AreOf types.now lanes.old.items }
-    ensures pushed { PushesText (R.reads reader.now) batch.old (lines_of text.now) batch.new result }
-    ensures lanes { AreOf types.now lanes.new.items }
+    ensures { PushesText (R.reads reader.now) batch.old (lines_of text.now) batch.new result }
 {
     let least = cutting.piece_len(text.len());
     if text.len() <= least {
         return push_lines(alloc, reader, types, text, batch);
     }
-    let pieces = cut(alloc, text, least)?;
-    push_pieces(rt, alloc, reader, types, &pieces, lanes, batch)
+    fill_block(rt, alloc, reader, types, text, least, lanes)?;
+    join_block(rt, alloc, lanes, batch, &mut || ())
 }
 
-// The number of the next row.
-fn next_number(batch: &Batch) -> Result<u64, OutOfMemory>
-    ensures { IfOk result (λ number. number ≡ length batch.now.rows + 1) }
-{
-    let count = batch.len();
-    if count == usize::MAX {
-        return Err(OutOfMemory);
-    }
-    Ok(count as u64 + 1)
-}
-
-// Adds the rows of a block to those of the batch, and tells the number of the row that comes next.
+// The same with the number of the row that comes next.
 #[tactic(auto, using(crate::proofs::Blocks::block_laws))]
-fn push_block<H: Threads + Sync, R: StateReader + Sync>(
+fn push_last<H: Threads + Sync, R: StateReader + Sync>(
     rt: &H,
     alloc: Global,
     reader: &R,
@@ -99,17 +113,50 @@ fn push_block<H: Threads + Sync, R: StateReader + Sync>(
     requires readable { AreReadable (R.takes reader.now) types.now }
     requires types { batch.old.types ≡ types.now }
     requires lanes { AreOf types.now lanes.old.items }
-    ensures pushed { PushesBlock (R.reads reader.now) batch.old (lines_of text.now) batch.new result }
+    ensures { PushesBlock (R.reads reader.now) batch.old (lines_of text.now) batch.new result }
+{
+    match push_text(rt, alloc, reader, types, cutting, text, lanes, batch) {
+        Ok(()) => Ok(next_number(batch)?),
+        Err(refusal) => Err(refused_behind(batch, refusal)),
+    }
+}
+
+// Adds the rows of the lines of a block to a batch, up to the first that is refused. Where none is, the next block is read into its place;
+// where it was read in pieces, this thread does so while their rows are joined.
+#[tactic(auto, using(crate::proofs::Blocks::text_laws))]
+fn push_and_read<H: Threads + Sync, S: Source, R: StateReader + Sync>(
+    rt: &H,
+    alloc: Global,
+    reader: &R,
+    types: &[Ty],
+    cutting: Cutting,
+    source: &mut S,
+    ahead: &mut Lookahead,
+    block: &mut Block,
+    lanes: &mut Vec<Lane>,
+    batch: &mut Batch,
+) -> Result<Stop, LineRefusal>
+    requires few { length types.now < 2 ^ 32 }
+    requires readable { AreReadable (R.takes reader.now) types.now }
+    requires types { batch.old.types ≡ types.now }
+    requires lanes { AreOf types.now lanes.old.items }
+    ensures ok { OnOk result (PushesText (R.reads reader.now) batch.old (lines_of block.old) batch.new (Ok tt)) }
+    ensures err { IfErr result (λ refusal. PushesText (R.reads reader.now) batch.old (lines_of block.old) batch.new (Err refusal)) }
+    ensures block { IfOk result (ReadsBlock (S.left source.old) (S.left source.new) ahead.old ahead.new block.new) }
+    ensures cause { IfOk result (FillCause (S.faults source.old) (S.faults source.new)) }
     ensures lanes { AreOf types.now lanes.new.items }
 {
-    let pushed = push_text(rt, alloc, reader, types, cutting, text, lanes, batch);
-    match next_number(batch) {
-        Ok(number) => match pushed {
-            Ok(()) => Ok(number),
-            Err(refusal) => Err(fault_of(number, refusal)),
-        },
-        Err(_) => Err(RowFault::OutOfMemory),
+    let least = cutting.piece_len(block.len());
+    if block.len() <= least {
+        push_lines(alloc, reader, types, block.as_slice(), batch)?;
+        return Ok(ahead.read_block(source, block)?);
     }
+    fill_block(rt, alloc, reader, types, block.as_slice(), least, lanes)?;
+    let mut read = || -> Result<Stop, OutOfMemory>
+        ensures block { IfOk result (ReadsBlock (S.left source.entry.now) (S.left source.exit.now) ahead.entry.now ahead.exit.now block.exit.now) }
+        ensures cause { IfOk result (FillCause (S.faults source.entry.now) (S.faults source.exit.now)) }
+    { ahead.read_block(source, block) };
+    Ok(join_block(rt, alloc, lanes, batch, &mut read)??)
 }
 
 // The rows of all that a source has left behind what is held.
@@ -128,40 +175,36 @@ fn read_all<H: Threads + Sync, S: Source, R: StateReader + Sync>(
     ensures rows { ReadsRows (R.reads reader.now) types.now (S.left source.old) (S.left source.new) ahead.old result }
     ensures cause { RowCause (S.faults source.old) (S.faults source.new) result }
 {
-    let mut batch = match Batch::new(alloc, types) {
-        Ok(batch) => batch,
-        Err(_) => return Err(RowFault::OutOfMemory),
-    };
+    let mut batch = Batch::new(alloc, types)?;
     let mut lanes = Vec::new(alloc);
     let mut block = Block::new(alloc);
+    let mut stop = ahead.read_block(source, &mut block)?;
     for _ in 0..usize::MAX {
-        let stop = match ahead.read_block(source, &mut block) {
-            Ok(stop) => stop,
-            Err(_) => return Err(RowFault::OutOfMemory),
+        let Stop::More = stop else {
+            break;
         };
-        let next = match push_block(
-            rt,
-            alloc,
-            reader,
-            types,
-            cutting,
-            block.as_slice(),
-            &mut lanes,
-            &mut batch,
+        match push_and_read(
+            rt, alloc, reader, types, cutting, source, ahead, &mut block, &mut lanes, &mut batch,
         ) {
-            Ok(next) => next,
-            Err(fault) => return Err(fault),
-        };
-        match stop {
-            Stop::More => {}
-            Stop::End => return Ok(batch),
-            Stop::Read => return Err(RowFault::Read),
-            Stop::TooLong => return Err(RowFault::TooLong { row: next }),
-            Stop::TooLarge => return Err(RowFault::TooLarge),
+            Ok(next) => stop = next,
+            Err(refusal) => return Err(refused_behind(&batch, refusal)),
         }
     }
-    // Each block has a byte at least: memory ends before the blocks do.
-    Err(RowFault::OutOfMemory)
+    let text = block.as_slice();
+    let next = match push_last(
+        rt, alloc, reader, types, cutting, text, &mut lanes, &mut batch,
+    ) {
+        Ok(next) => next,
+        Err(fault) => return Err(fault),
+    };
+    match stop {
+        Stop::End => Ok(batch),
+        Stop::Read => Err(RowFault::Read),
+        Stop::TooLong => Err(RowFault::TooLong { row: next }),
+        Stop::TooLarge => Err(RowFault::TooLarge),
+        // Each block has a byte at least: memory ends before the blocks do.
+        Stop::More => Err(RowFault::OutOfMemory),
+    }
 }
 
 // The rows of all that a reader of lines and its source have left.

@@ -1,62 +1,65 @@
-use Rattle.std.proofs.Common.{arith, ◌∙◌, List, ℕ, Err, refl, subst}
+use Rattle.std.proofs.Common.{List, Err, ap, arith, length, subst, ℕ}
 use Rattle.tsv_text.specs.Lines.{lines_of}
-use Rattle.line_reader.specs.Filling.{FillCause}
 use Rattle.line_reader.specs.declared.stop.Stop.TheVariants as stop
 use Rattle.batch_reader.specs.Pushing.{PushesBlock}
-use Rattle.batch_reader.proofs.Blocks.{read-refused, read-start, refused-cause, stop-answer}
+use Rattle.batch_reader.proofs.Blocks.{refused-cause}
+use Rattle.batch_reader.proofs.Pending.{first-block, last-block, next-block, pending-refused}
 use Rattle.batch_reader.proofs.reading.read_all.Goals as goal
 
 pub loop-init : goal.loop-init
-loop-init g c = record {
-  read = read-start (g.R.StateReader.reads c.args.reader.now) c.args.types.now (g.S.Source.left c.args.source.now) c.args.ahead.now c.in-Ok.batch c.in-Ok.ensures;
-  quiet = refl;
-  lanes = λ k d within. absurd (omega (arith, within));
-}
+loop-init g c =
+    first-block (g.R.StateReader.reads c.args.reader.now) c.args.types.now (g.S.Source.left c.args.source.now) (g.S.Source.left c.read_block.new.source)
+    c.args.ahead.now c.read_block.new.self c.in_ok-batch.batch c.read_block.new.block c.in_ok-stop.stop (g.S.Source.faults c.args.source.now) (g.S.Source.faults c.read_block.new.source)
+    c.new-lanes.result.items c.in_ok-batch.ensures c.in_ok-stop.ensures.block c.in_ok-stop.ensures.cause (λ k d within. absurd (omega (arith, within, ap length c.new-lanes.ensures.items)))
 
 pub loop-preserved : goal.loop-preserved
 loop-preserved g c =
-    let faults = g.S.Source.faults in
-    record {
-      read = stop-answer (g.R.StateReader.reads c.args.reader.now) c.args.types.now (g.S.Source.left c.args.source.now) (g.S.Source.left c.loop.source) (g.S.Source.left c.read_block.new.source)
-          c.args.ahead.now c.loop.ahead c.read_block.new.self c.loop.batch c.push_block.new.batch c.read_block.new.block c.as_slice.result.now c.in-Ok-push_block.next c.in-Ok-read_block.stop stop.More
-          c.loop.invariant.read c.in-Ok-read_block.ensures.block c.as_slice.ensures c.in-Ok-push_block.ensures.pushed c.in-More.is;
-      quiet = subst (FillCause (faults c.loop.source) (faults c.read_block.new.source)) c.in-More.is c.in-Ok-read_block.ensures.cause ∙ c.loop.invariant.quiet;
-      lanes = c.in-Ok-push_block.ensures.lanes;
-    }
+    next-block (g.R.StateReader.reads c.args.reader.now) c.args.types.now (g.S.Source.left c.args.source.now) (g.S.Source.left c.loop.source) (g.S.Source.left c.push_and_read.new.source)
+    c.args.ahead.now c.loop.ahead c.push_and_read.new.ahead c.loop.batch c.push_and_read.new.batch c.loop.block c.push_and_read.new.block c.loop.stop c.in-Ok.next
+    (g.S.Source.faults c.args.source.now) (g.S.Source.faults c.loop.source) (g.S.Source.faults c.push_and_read.new.source) c.loop.lanes.items c.push_and_read.new.lanes.items
+    c.loop.invariant c.in-More.is c.in-Ok.ensures.ok c.in-Ok.ensures.block c.in-Ok.ensures.cause c.in-Ok.ensures.lanes
+
+pub returns-in-Err-clause-rows : goal.returns-in-Err-clause-rows
+returns-in-Err-clause-rows g c =
+    let reads = g.R.StateReader.reads c.args.reader.now in
+    pending-refused reads c.args.types.now (g.S.Source.left c.args.source.now) (g.S.Source.left c.loop.source) (g.S.Source.left c.push_and_read.new.source)
+    c.args.ahead.now c.loop.ahead c.loop.batch c.push_and_read.new.batch c.loop.block c.loop.stop (g.S.Source.faults c.args.source.now) (g.S.Source.faults c.loop.source) c.loop.lanes.items
+    c.refused_behind.result c.loop.invariant (c.refused_behind.ensures reads c.loop.batch (lines_of c.loop.block) c.in-Err.ensures.err)
+
+pub returns-in-Err-clause-cause : goal.returns-in-Err-clause-cause
+returns-in-Err-clause-cause g c =
+    let reads = g.R.StateReader.reads c.args.reader.now in
+    refused-cause reads c.loop.batch c.push_and_read.new.batch (lines_of c.loop.block) (g.S.Source.faults c.args.source.now) (g.S.Source.faults c.push_and_read.new.source)
+    c.refused_behind.result (c.refused_behind.ensures reads c.loop.batch (lines_of c.loop.block) c.in-Err.ensures.err)
+
+pub returns-in-Err-push_last-clause-rows : goal.returns-in-Err-push_last-clause-rows
+returns-in-Err-push_last-clause-rows g c =
+    let reads = g.R.StateReader.reads c.args.reader.now in
+    let pushed = subst (λ (text : List ℕ). PushesBlock reads c.loop.batch (lines_of text) c.push_last.new.batch (Err c.in-Err-push_last.fault)) c.as_slice-text.ensures c.in-Err-push_last.ensures in
+    pending-refused reads c.args.types.now (g.S.Source.left c.args.source.now) (g.S.Source.left c.loop.source) (g.S.Source.left c.loop.source)
+    c.args.ahead.now c.loop.ahead c.loop.batch c.push_last.new.batch c.loop.block c.loop.stop (g.S.Source.faults c.args.source.now) (g.S.Source.faults c.loop.source) c.loop.lanes.items
+    c.in-Err-push_last.fault c.loop.invariant pushed
 
 pub returns-in-End-clause-rows : goal.returns-in-End-clause-rows
 returns-in-End-clause-rows g c =
-    stop-answer (g.R.StateReader.reads c.args.reader.now) c.args.types.now (g.S.Source.left c.args.source.now) (g.S.Source.left c.loop.source) (g.S.Source.left c.read_block.new.source)
-    c.args.ahead.now c.loop.ahead c.read_block.new.self c.loop.batch c.push_block.new.batch c.read_block.new.block c.as_slice.result.now c.in-Ok-push_block.next c.in-Ok-read_block.stop stop.End
-    c.loop.invariant.read c.in-Ok-read_block.ensures.block c.as_slice.ensures c.in-Ok-push_block.ensures.pushed c.in-End.is
+    last-block (g.R.StateReader.reads c.args.reader.now) c.args.types.now (g.S.Source.left c.args.source.now) (g.S.Source.left c.loop.source)
+    c.args.ahead.now c.loop.ahead c.loop.batch c.push_last.new.batch c.loop.block c.as_slice-text.result.now c.loop.stop stop.End (g.S.Source.faults c.args.source.now) (g.S.Source.faults c.loop.source)
+    c.in-Ok-push_last.next c.loop.lanes.items c.loop.invariant c.as_slice-text.ensures c.in-Ok-push_last.ensures c.in-End.is
 
 pub returns-in-Read-clause-rows : goal.returns-in-Read-clause-rows
 returns-in-Read-clause-rows g c =
-    stop-answer (g.R.StateReader.reads c.args.reader.now) c.args.types.now (g.S.Source.left c.args.source.now) (g.S.Source.left c.loop.source) (g.S.Source.left c.read_block.new.source)
-    c.args.ahead.now c.loop.ahead c.read_block.new.self c.loop.batch c.push_block.new.batch c.read_block.new.block c.as_slice.result.now c.in-Ok-push_block.next c.in-Ok-read_block.stop stop.Read
-    c.loop.invariant.read c.in-Ok-read_block.ensures.block c.as_slice.ensures c.in-Ok-push_block.ensures.pushed c.in-Read.is
+    last-block (g.R.StateReader.reads c.args.reader.now) c.args.types.now (g.S.Source.left c.args.source.now) (g.S.Source.left c.loop.source)
+    c.args.ahead.now c.loop.ahead c.loop.batch c.push_last.new.batch c.loop.block c.as_slice-text.result.now c.loop.stop stop.Read (g.S.Source.faults c.args.source.now) (g.S.Source.faults c.loop.source)
+    c.in-Ok-push_last.next c.loop.lanes.items c.loop.invariant c.as_slice-text.ensures c.in-Ok-push_last.ensures c.in-Read.is
 
 pub returns-in-TooLong-clause-rows : goal.returns-in-TooLong-clause-rows
 returns-in-TooLong-clause-rows g c =
-    stop-answer (g.R.StateReader.reads c.args.reader.now) c.args.types.now (g.S.Source.left c.args.source.now) (g.S.Source.left c.loop.source) (g.S.Source.left c.read_block.new.source)
-    c.args.ahead.now c.loop.ahead c.read_block.new.self c.loop.batch c.push_block.new.batch c.read_block.new.block c.as_slice.result.now c.in-Ok-push_block.next c.in-Ok-read_block.stop stop.TooLong
-    c.loop.invariant.read c.in-Ok-read_block.ensures.block c.as_slice.ensures c.in-Ok-push_block.ensures.pushed c.in-TooLong.is
+    last-block (g.R.StateReader.reads c.args.reader.now) c.args.types.now (g.S.Source.left c.args.source.now) (g.S.Source.left c.loop.source)
+    c.args.ahead.now c.loop.ahead c.loop.batch c.push_last.new.batch c.loop.block c.as_slice-text.result.now c.loop.stop stop.TooLong (g.S.Source.faults c.args.source.now) (g.S.Source.faults c.loop.source)
+    c.in-Ok-push_last.next c.loop.lanes.items c.loop.invariant c.as_slice-text.ensures c.in-Ok-push_last.ensures c.in-TooLong.is
 
 pub returns-in-TooLarge-clause-rows : goal.returns-in-TooLarge-clause-rows
 returns-in-TooLarge-clause-rows g c =
-    stop-answer (g.R.StateReader.reads c.args.reader.now) c.args.types.now (g.S.Source.left c.args.source.now) (g.S.Source.left c.loop.source) (g.S.Source.left c.read_block.new.source)
-    c.args.ahead.now c.loop.ahead c.read_block.new.self c.loop.batch c.push_block.new.batch c.read_block.new.block c.as_slice.result.now c.in-Ok-push_block.next c.in-Ok-read_block.stop stop.TooLarge
-    c.loop.invariant.read c.in-Ok-read_block.ensures.block c.as_slice.ensures c.in-Ok-push_block.ensures.pushed c.in-TooLarge.is
-
-pub returns-in-Err-push_block-clause-rows : goal.returns-in-Err-push_block-clause-rows
-returns-in-Err-push_block-clause-rows g c =
-    let reads = g.R.StateReader.reads c.args.reader.now in
-    let pushed = subst (λ (text : List ℕ). PushesBlock reads c.loop.batch (lines_of text) c.push_block.new.batch (Err c.in-Err-push_block.fault)) c.as_slice.ensures c.in-Err-push_block.ensures.pushed in
-    read-refused reads c.args.types.now (g.S.Source.left c.args.source.now) (g.S.Source.left c.loop.source) (g.S.Source.left c.read_block.new.source)
-    c.args.ahead.now c.loop.ahead c.read_block.new.self c.loop.batch c.push_block.new.batch c.read_block.new.block c.in-Ok-read_block.stop
-    c.loop.invariant.read c.in-Ok-read_block.ensures.block c.in-Err-push_block.fault pushed
-
-pub returns-in-Err-push_block-clause-cause : goal.returns-in-Err-push_block-clause-cause
-returns-in-Err-push_block-clause-cause g c =
-    refused-cause (g.R.StateReader.reads c.args.reader.now) c.loop.batch c.push_block.new.batch (lines_of c.as_slice.result.now) (g.S.Source.faults c.args.source.now) (g.S.Source.faults c.read_block.new.source)
-    c.in-Err-push_block.fault c.in-Err-push_block.ensures.pushed
+    last-block (g.R.StateReader.reads c.args.reader.now) c.args.types.now (g.S.Source.left c.args.source.now) (g.S.Source.left c.loop.source)
+    c.args.ahead.now c.loop.ahead c.loop.batch c.push_last.new.batch c.loop.block c.as_slice-text.result.now c.loop.stop stop.TooLarge (g.S.Source.faults c.args.source.now) (g.S.Source.faults c.loop.source)
+    c.in-Ok-push_last.next c.loop.lanes.items c.loop.invariant c.as_slice-text.ensures c.in-Ok-push_last.ensures c.in-TooLarge.is

@@ -7,9 +7,9 @@ use Rattle.batch_reader.specs.Pieces.{HasPiece}
 use Rattle.batch_reader.specs.declared.lane.Lane.{Lane}
 use Rattle.batch_reader.proofs.Lanes.{zip-each, zip-types}
 use Rattle.batch_reader.proofs.Crossing.{column-send}
-use Rattle.batch_reader.proofs.parallel.fill_lanes.Given.{Over}
-use Rattle.batch_reader.proofs.parallel.fill_lanes.Goals.{After-for_each_apart}
-use Rattle.batch_reader.proofs.parallel.fill_lanes.Goals as goal
+use Rattle.batch_reader.proofs.filling.fill_lanes.Given.{Over}
+use Rattle.batch_reader.proofs.filling.fill_lanes.Goals.{After-for_each_apart}
+use Rattle.batch_reader.proofs.filling.fill_lanes.Goals as goal
 
 pub for_each_apart-requires-send-T : goal.for_each_apart-requires-send-T
 for_each_apart-requires-send-T g c κs within = search (sendable, crosses, column-send) depth 60 fits 4000
