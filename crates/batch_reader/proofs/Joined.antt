@@ -1,10 +1,10 @@
 -- Rows that are joined column by column.
-use Rattle.std.proofs.Common.{◌≡◌, ℕ, zero, suc, ◌+◌, ◌<◌, ◌≤◌, List, [], ◌∷◌, ◌++◌, length, map, take, drop, get_or, refl, sym, ap, ◌∙◌, arith, subst, append_assoc, length-append}
+use Rattle.std.proofs.Common.{◌≡◌, ℕ, zero, suc, ◌+◌, ◌<◌, ◌≤◌, List, [], ◌∷◌, ◌++◌, length, map, take, drop, get_or, refl, sym, ap, ◌∙◌, arith, subst, length-append}
 use Rattle.std.specs.Prelude.{All, Some}
 use Rattle.std.specs.List.{AllByRecursion, slice_get}
 use Rattle.std.specs.Cmp.Derive.{both_true}
 use Rattle.std.proofs.Math.Seq.{drop-cons, take-suc}
-use Rattle.std.proofs.lemmas.List.{append-nil, get_or-drop, get_or-map, length-map, map-append, take-append-drop, take_all, take_at}
+use Rattle.std.proofs.lemmas.List.{append-nil, get_or-drop, get_or-map, length-map, take-append-drop, take_all, take_at}
 use Rattle.std.proofs.lemmas.List.Concat.{flat_map-append}
 use Rattle.std.proofs.lemmas.List.Elements.{All-append, All-get_or, All-head, All-nil, All-tail, recursion_from_All}
 use Rattle.value_types.specs.declared.ty.Ty.{Ty}
@@ -46,18 +46,6 @@ joins-first place i lanes before after is =
           let all : first ≡ rows_in lanes = sym (split ∙ ap (λ (l : List (List Value)). first ++ l) (nil-of rest none) ∙ append-nil first) in
           is ∙ ap (λ (rows : List (List Value)). with_values before (column_at place rows)) all;
     }
-
--- one lane more
-pub joins-more : (place i : ℕ) (lanes : List Lane) (lane : Lane) (before now after : TypedValues) (more : List Value) → now ≡ with_values before (column_at place (rows_in (take i lanes)))
-    → i < length lanes → lane ≡ get_or lanes i lane → more ≡ column_at place lane.rows.rows → after ≡ with_values now more → after ≡ with_values before (column_at place (rows_in (take (suc i) lanes)))
-joins-more place i lanes lane before now after more now_is within lane_is more_is after_is =
-    let first = rows_in (take i lanes) in
-    let cell = λ (row : List Value). get_or row place Nil in
-    let next : rows_in (take (suc i) lanes) ≡ first ++ lane.rows.rows =
-    ap rows_in (take-suc lanes i lane within ∙ ap (λ (it : Lane). take i lanes ++ it ∷ []) (sym lane_is)) ∙ flat_map-append (λ (it : Lane). it.rows.rows) (take i lanes) (lane ∷ [])
-    ∙ ap (λ (l : List (List Value)). first ++ l) (append-nil lane.rows.rows) in
-    after_is ∙ (λ k. with_values (now_is k) (more_is k)) ∙ (λ k. record { ty = before.ty; values = append_assoc before.values (column_at place first) (column_at place lane.rows.rows) k })
-    ∙ ap (λ (l : List Value). with_values before l) (sym (map-append cell first lane.rows.rows)) ∙ ap (λ (rows : List (List Value)). with_values before (column_at place rows)) (sym next)
 
 -- a call at each place of the columns
 pub each-joins : (rows : List (List Value)) (cs called ds : List TypedValues) → called ≡ cs

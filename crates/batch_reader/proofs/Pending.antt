@@ -11,9 +11,8 @@ use Rattle.line_reader.specs.declared.stop.Stop.{Stop}
 use Rattle.line_reader.specs.declared.stop.Stop.TheVariants as stop
 use Rattle.batch_reader.specs.Pieces.{AreOf}
 use Rattle.batch_reader.specs.Pushing.{PushesBlock, PushesText}
-use Rattle.batch_reader.specs.Reading.{ReadsRows, RowCause}
+use Rattle.batch_reader.specs.Reading.{ReadsRows}
 use Rattle.batch_reader.specs.declared.fault.RowFault.{RowFault}
-use Rattle.batch_reader.specs.declared.fault.RowFault.TheVariants as fault
 use Rattle.batch_reader.specs.declared.lane.Lane.{Lane}
 use Rattle.batch_reader.proofs.Blocks.{Exit, IsReadTo, read-more, read-refused, read-start, stop-answer}
 
@@ -61,11 +60,3 @@ pub last-block : (reads : ReadsStates) (types : List Ty) (left now : Option (Lis
     → IsPending reads types left now first ahead batch block stops before count lanes → text ≡ block → PushesBlock reads batch (lines_of text) next (Ok n) → stops ≡ told → Exit reads types left now first ahead next n told
 last-block reads types left now first ahead batch next block text stops told before count n lanes so_far same pushed is =
     stop-answer reads types left so_far.mid now first so_far.held ahead batch next block text n stops told so_far.read so_far.one same pushed is
-
-pub end-cause : (reads : ReadsStates) (types : List Ty) (left now : Option (List ℕ)) (first ahead : Ahead) (batch next : Rows) (block : List ℕ) (stops : Stop) (before count : ℕ) (lanes : List Lane)
-    → IsPending reads types left now first ahead batch block stops before count lanes → stops ≡ stop.End → RowCause before count (Ok next)
-end-cause reads types left now first ahead batch next block stops before count lanes so_far is = subst (FillCause so_far.faults count) is so_far.cause ∙ so_far.quiet
-
-pub read-cause : (reads : ReadsStates) (types : List Ty) (left now : Option (List ℕ)) (first ahead : Ahead) (batch : Rows) (block : List ℕ) (stops : Stop) (before count : ℕ) (lanes : List Lane)
-    → IsPending reads types left now first ahead batch block stops before count lanes → stops ≡ stop.Read → RowCause {A = Rows} before count (Err fault.Read)
-read-cause reads types left now first ahead batch block stops before count lanes so_far is = subst (λ (n : ℕ). FillCause n count stop.Read) so_far.quiet (subst (FillCause so_far.faults count) is so_far.cause)
