@@ -92,7 +92,7 @@ unfolds (Resample a b p c) ts g s t k =
     (each_numbered (IsTree c (inward (Resample a b p c) ts)) (λ z. IsTree c (inward (Resample a b p c) ts) z.1 × (z.0 < intervals a b p)) (intervals a b p) 0 k.0 (omega (arith, k.3)) (λ i u l h. (h, l)) k.2)))
 
 -- what a link picks out of feeds are feeds
-met_here : {X : Type 0} (P : X → Type 0) (f : X × Option ℕ) → P f.0 → Each P (when_met f)
+pub met_here : {X : Type 0} (P : X → Type 0) (f : X × Option ℕ) → P f.0 → Each P (when_met f)
 met_here P (x, None) k = tt
 met_here P (x, Some n) k = pick (nat_eq n 0)
   where

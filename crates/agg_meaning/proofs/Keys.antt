@@ -7,12 +7,12 @@ use Rattle.std.proofs.lemmas.List.Concat.{flat_map-append}
 use Rattle.std.proofs.lemmas.List.Elements.{filter-append}
 use Rattle.agg_terms.specs.Values.{Tree, Value, keyed_tree, map_value, rows_tree}
 use Rattle.agg_terms.specs.Chains.{Chain, Distinct, MapOf, Ty}
-use Rattle.agg_terms.specs.Lists.{Apart, some}
+use Rattle.agg_terms.specs.Lists.{Apart, Each, some}
 use Rattle.agg_terms.specs.Order.{before_others, compare, compare_rows, different, firsts, into_set}
 use Rattle.agg_terms.specs.Types.{first_type, inward, key_type}
 use Rattle.agg_terms.specs.Trees.{IsPlain}
-use Rattle.agg_meaning.specs.Feeds.{Feed, IsFeed, no_null, opened}
-use Rattle.agg_meaning.specs.Laws.{IsLegal}
+use Rattle.agg_meaning.specs.Feeds.{AreValues, Feed, IsFeed, no_null, opened}
+use Rattle.agg_meaning.specs.Laws.{AreFeeds, IsLegal}
 use Rattle.agg_meaning.specs.Results.{blank}
 use Rattle.agg_meaning.specs.States.{IsFedChain, Joins, MeansChain, StandsFor, TakesFeeds}
 use Rattle.agg_meaning.specs.Suffixes.{at_key, fed, keys_of, meaning, normal}
@@ -22,7 +22,7 @@ use Rattle.agg_terms.proofs.Sorting.{firsts_steady, itself, set_steady, steady_j
 use Rattle.agg_meaning.proofs.Blank.{of_none}
 use Rattle.agg_meaning.proofs.ChainLaws.{keyed_same, rows_same, table_keys}
 use Rattle.agg_meaning.proofs.Formed.{key_here}
-use Rattle.agg_meaning.proofs.Kept.{different_order}
+use Rattle.agg_meaning.proofs.Kept.{different_order, each_firsts, each_flat_map, each_kept}
 use Rattle.agg_meaning.proofs.Links.{key_covered}
 use Rattle.agg_meaning.proofs.Spread.{map_each}
 use Rattle.agg_meaning.proofs.Suffixed.{picked_joins, picked_takes}
@@ -122,21 +122,24 @@ module _ (c : Chain) (ts : List Ty) where
       entries_stand (A ++ B) after (e ∙ ap₂ (λ x y. different compare (x ++ y)) (keys_stand A es h) (keys_stand B us k) ∙ sym (keys_added A B))
       (λ j. picked_joins c key_ts (at_key j) A B (found (blank c) after j) (a j (at j A) (at j B) (entry_stands A es h j) (entry_stands B us k j)))
 
+  keyed : (L : List (List (Value × Option (Feed c)))) → AreFeeds (MapOf c) ts L → (k : Value) → AreFeeds c key_ts (at k L)
+  keyed L p k = each_flat_map (IsFeed (MapOf c) ts) (IsFeed c key_ts) (at_key k) (λ f q. key_here (IsPlain (key_type (first_type ts))) (IsFeed c key_ts) k f q) L p
+
   pub map_means : (es : List (Value × Tree)) (value : Value → Value) → ((k : Value) → MeansChain c key_ts (found (blank c) es k) (value k)) →
       MeansChain (MapOf c) ts (keyed_tree es) (map_value (map (λ k. (k, value k)) (keys es)))
-  map_means es value a = λ L l h. ap map_value (ap (map (λ k. (k, value k))) (keys_stand L es h) ∙ each L l h (keys_of L))
+  map_means es value a = λ L l p h. ap map_value (ap (map (λ k. (k, value k))) (keys_stand L es h) ∙ each L l p h (keys_of L))
     where
-      each : (L : List (List (Value × Option (Feed c)))) → IsLegal (MapOf c) ts → StandsFor (MapOf c) ts L (keyed_tree es) → (ks : List Value) → map {B = Value × Value} (λ k. (k, value k)) ks ≡ map (λ k. (k, meaning c key_ts (at k L))) ks
-      each L l h [] = refl
-      each L l h (k ∷ ks) = ap₂ ◌∷◌ (ap (λ x. (k, x)) (a k (at k L) l (entry_stands L es h k))) (each L l h ks)
+      each : (L : List (List (Value × Option (Feed c)))) → IsLegal (MapOf c) ts → AreFeeds (MapOf c) ts L → StandsFor (MapOf c) ts L (keyed_tree es) → (ks : List Value) → map {B = Value × Value} (λ k. (k, value k)) ks ≡ map (λ k. (k, meaning c key_ts (at k L))) ks
+      each L l p h [] = refl
+      each L l p h (k ∷ ks) = ap₂ ◌∷◌ (ap (λ x. (k, x)) (a k (at k L) l (keyed L p k) (entry_stands L es h k))) (each L l p h ks)
 
   pub map_fed : (es : List (Value × Tree)) (told : Value → Bool) → ((k : Value) → IsFedChain c key_ts (found (blank c) es k) (told k)) →
       IsFedChain (MapOf c) ts (keyed_tree es) (some told (keys es))
-  map_fed es told a = λ L l h. ap (some told) (keys_stand L es h) ∙ each L l h (keys_of L)
+  map_fed es told a = λ L l p h. ap (some told) (keys_stand L es h) ∙ each L l p h (keys_of L)
     where
-      each : (L : List (List (Value × Option (Feed c)))) → IsLegal (MapOf c) ts → StandsFor (MapOf c) ts L (keyed_tree es) → (ks : List Value) → some told ks ≡ some (λ k. fed c key_ts (at k L)) ks
-      each L l h [] = refl
-      each L l h (k ∷ ks) = ap₂ (λ b z. cond b true z) (a k (at k L) l (entry_stands L es h k)) (each L l h ks)
+      each : (L : List (List (Value × Option (Feed c)))) → IsLegal (MapOf c) ts → AreFeeds (MapOf c) ts L → StandsFor (MapOf c) ts L (keyed_tree es) → (ks : List Value) → some told ks ≡ some (λ k. fed c key_ts (at k L)) ks
+      each L l p h [] = refl
+      each L l p h (k ∷ ks) = ap₂ (λ b z. cond b true z) (a k (at k L) l (keyed L p k) (entry_stands L es h k)) (each L l p h ks)
 
   -- -Distinct: the rows so far, and a row that isn't among them behind
   pub distinct_takes : (r : List Value) (rs : List (List Value)) → TakesFeeds (Distinct c) ts (r ∷ []) (rows_tree rs) (rows_tree (firsts compare_rows (rs ++ filter no_null (r ∷ []))))
@@ -155,8 +158,11 @@ module _ (c : Chain) (ts : List Ty) where
       (firsts_steady compare_rows rows_order [] (filter no_null A)) (firsts_steady compare_rows rows_order [] (filter no_null B))
       ∙ sym (ap (firsts compare_rows) (filter-append no_null A B)))
 
-  pub distinct_means : (rs : List (List Value)) → MeansChain (Distinct c) ts (rows_tree rs) (meaning c ts (map (opened c) rs))
-  distinct_means rs = λ L l h. ap (λ z. meaning c ts (map (opened c) z)) (rows_same _ _ h)
+  first_rows : (L : List (List Value)) (rs : List (List Value)) → AreFeeds (Distinct c) ts L → StandsFor (Distinct c) ts L (rows_tree rs) → Each (AreValues ts) rs
+  first_rows L rs p h = subst (Each (AreValues ts)) (sym (rows_same _ _ h)) (each_firsts (AreValues ts) compare_rows (filter no_null L) (each_kept (AreValues ts) no_null L p))
 
-  pub distinct_fed : (rs : List (List Value)) → IsFedChain (Distinct c) ts (rows_tree rs) (fed c ts (map (opened c) rs))
-  distinct_fed rs = λ L l h. ap (λ z. fed c ts (map (opened c) z)) (rows_same _ _ h)
+  pub distinct_means : (rs : List (List Value)) (x : Value) → (IsLegal c ts → Each (AreValues ts) rs → x ≡ meaning c ts (map (opened c) rs)) → MeansChain (Distinct c) ts (rows_tree rs) x
+  distinct_means rs x a = λ L l p h. a (l.0, l.1.1) (first_rows L rs p h) ∙ ap (λ z. meaning c ts (map (opened c) z)) (rows_same _ _ h)
+
+  pub distinct_fed : (rs : List (List Value)) (b : Bool) → (IsLegal c ts → Each (AreValues ts) rs → b ≡ fed c ts (map (opened c) rs)) → IsFedChain (Distinct c) ts (rows_tree rs) b
+  distinct_fed rs b a = λ L l p h. a (l.0, l.1.1) (first_rows L rs p h) ∙ ap (λ z. fed c ts (map (opened c) z)) (rows_same _ _ h)

@@ -10,12 +10,14 @@ use Rattle.agg_terms.specs.Lists.{places, some}
 use Rattle.agg_terms.specs.Types.{intervals, inward}
 use Rattle.agg_meaning.specs.Feeds.{Feed, IsFeed}
 use Rattle.agg_meaning.specs.Picks.{at_place, in_interval, width}
+use Rattle.agg_meaning.specs.Laws.{AreFeeds}
 use Rattle.agg_meaning.specs.Results.{blank}
 use Rattle.agg_meaning.specs.States.{IsFedChain, Joins, MeansChain, StandsFor, TakesFeeds}
 use Rattle.agg_meaning.specs.Suffixes.{fed, meaning, normal}
 use Rattle.agg_meaning.proofs.Blank.{of_none}
 use Rattle.agg_meaning.proofs.ChainLaws.{slots_same}
 use Rattle.agg_meaning.proofs.Formed.{inside_here, place_here}
+use Rattle.agg_meaning.proofs.Kept.{each_flat_map}
 use Rattle.agg_meaning.proofs.Links.{length-places, past_width, some-map, width-append}
 use Rattle.agg_meaning.proofs.Places.{by_places, get_or-past, get_or-places}
 use Rattle.agg_meaning.proofs.Suffixed.{picked_takes, picked_joins}
@@ -62,19 +64,22 @@ module _ (c : Chain) (ts : List Ty) where
       slots_stand (A ++ B) after (omega (arith, e, slots_length A ss h, slots_length B us k, width-append A B))
       (λ i. picked_joins c each_ts (at_place i) A B (slot after i) (a i (at i A) (at i B) (slot_stands A ss h i) (slot_stands B us k i)))
 
+  placed : (L : List (List (Option (Feed c)))) → AreFeeds (ForEach c) ts L → (i : ℕ) → AreFeeds c each_ts (at i L)
+  placed L p i = each_flat_map (IsFeed (ForEach c) ts) (IsFeed c each_ts) (at_place i) (λ f q. place_here (IsFeed c each_ts) i f q) L p
+
   pub for_each_means : (slots : List Tree) (xs : List Value) → length xs ≡ length slots →
       ((i : ℕ) → i < length slots → MeansChain c each_ts (slot slots i) (get_or xs i Nil)) → MeansChain (ForEach c) ts (slots_tree slots) (list_value xs)
-  for_each_means slots xs e a = λ L l h.
+  for_each_means slots xs e a = λ L l p h.
       let n : length slots ≡ width L = slots_length L slots h in
       ap list_value (by_places (λ i. meaning c each_ts (at i L)) Nil xs 0 (width L) (e ∙ n)
-      (λ i k. let z : i ≡ 0 + i = omega arith in a i (omega (arith, n, k)) (at i L) l (slot_stands L slots h i) ∙ ap (λ j. meaning c each_ts (at j L)) z))
+      (λ i k. let z : i ≡ 0 + i = omega arith in a i (omega (arith, n, k)) (at i L) l (placed L p i) (slot_stands L slots h i) ∙ ap (λ j. meaning c each_ts (at j L)) z))
 
   pub for_each_fed : (slots : List Tree) (bs : List Bool) → length bs ≡ length slots →
       ((i : ℕ) → i < length slots → IsFedChain c each_ts (slot slots i) (get_or bs i false)) → IsFedChain (ForEach c) ts (slots_tree slots) (some (λ b. b) bs)
-  for_each_fed slots bs e a = λ L l h.
+  for_each_fed slots bs e a = λ L l p h.
       let n : length slots ≡ width L = slots_length L slots h in
       ap (some (λ b. b)) (by_places (λ i. fed c each_ts (at i L)) false bs 0 (width L) (e ∙ n)
-      (λ i k. let z : i ≡ 0 + i = omega arith in a i (omega (arith, n, k)) (at i L) l (slot_stands L slots h i) ∙ ap (λ j. fed c each_ts (at j L)) z))
+      (λ i k. let z : i ≡ 0 + i = omega arith in a i (omega (arith, n, k)) (at i L) l (placed L p i) (slot_stands L slots h i) ∙ ap (λ j. fed c each_ts (at j L)) z))
       ∙ some-map (λ i. fed c each_ts (at i L)) (places 0 (width L))
 
 module _ (start end : ℤ) (step : ℕ) (c : Chain) (ts : List Ty) where
@@ -114,15 +119,19 @@ module _ (start end : ℤ) (step : ℕ) (c : Chain) (ts : List Ty) where
       parts_stand (A ++ B) after e
       (λ j q. picked_joins c part_ts (in_interval start end step j) A B (part after j) (a j q (inside j A) (inside j B) (part_stands A ss h j q) (part_stands B us k j q)))
 
+  contained : (L : List (Feed c × Option ℤ)) → AreFeeds (Resample start end step c) ts L → (j : ℕ) → AreFeeds c part_ts (inside j L)
+  contained L p j =
+      each_flat_map (IsFeed (Resample start end step c) ts) (IsFeed c part_ts) (in_interval start end step j) (λ f q. inside_here (IsFeed c part_ts) start end step j f q.0) L p
+
   pub resample_means : (slots : List Tree) (xs : List Value) → length xs ≡ count →
       ((j : ℕ) → j < count → MeansChain c part_ts (part slots j) (get_or xs j Nil)) → MeansChain (Resample start end step c) ts (slots_tree slots) (list_value xs)
-  resample_means slots xs e a = λ L l h.
+  resample_means slots xs e a = λ L l p h.
       ap list_value (by_places (λ j. meaning c part_ts (inside j L)) Nil xs 0 count e
-      (λ j k. let z : j ≡ 0 + j = omega arith in a j k (inside j L) (l.0.2, l.1) (part_stands L slots h j k) ∙ ap (λ i. meaning c part_ts (inside i L)) z))
+      (λ j k. let z : j ≡ 0 + j = omega arith in a j k (inside j L) (l.0.2, l.1) (contained L p j) (part_stands L slots h j k) ∙ ap (λ i. meaning c part_ts (inside i L)) z))
 
   pub resample_fed : (slots : List Tree) (bs : List Bool) → length bs ≡ count →
       ((j : ℕ) → j < count → IsFedChain c part_ts (part slots j) (get_or bs j false)) → IsFedChain (Resample start end step c) ts (slots_tree slots) (some (λ b. b) bs)
-  resample_fed slots bs e a = λ L l h.
+  resample_fed slots bs e a = λ L l p h.
       ap (some (λ b. b)) (by_places (λ j. fed c part_ts (inside j L)) false bs 0 count e
-      (λ j k. let z : j ≡ 0 + j = omega arith in a j k (inside j L) (l.0.2, l.1) (part_stands L slots h j k) ∙ ap (λ i. fed c part_ts (inside i L)) z))
+      (λ j k. let z : j ≡ 0 + j = omega arith in a j k (inside j L) (l.0.2, l.1) (contained L p j) (part_stands L slots h j k) ∙ ap (λ i. fed c part_ts (inside i L)) z))
       ∙ some-map (λ j. fed c part_ts (inside j L)) (places 0 count)

@@ -9,7 +9,7 @@ use Rattle.agg_meaning.specs.Laws.{AreFeeds, IsLegal}
 use Rattle.agg_meaning.specs.States.{Held, IsFedBy, IsFedChain, Joins, Means, MeansChain, StandsFor, Takes, TakesRow, TakesState, made_for}
 use Rattle.agg_meaning.specs.Suffixes.{fed, meaning, normal, unfolded}
 use Rattle.agg_meaning.proofs.ChainLaws.{joins}
-use Rattle.agg_meaning.proofs.Formed.{again}
+use Rattle.agg_meaning.proofs.Formed.{again, unfolds}
 use Rattle.agg_meaning.proofs.TreeLaws.{back}
 
 -- a tree stands for the feeds that it unfolds to
@@ -23,10 +23,10 @@ pub tree_of_joined : (c : Chain) (ts : List Ty) (t u v : Tree) → IsLegal c ts 
 tree_of_joined c ts t u v l h k a = a (unfolded c ts t) (unfolded c ts u) (stands_unfolded c ts t l h) (stands_unfolded c ts u l k)
 
 pub value_of_meant : (c : Chain) (ts : List Ty) (t : Tree) (x : Value) → IsLegal c ts → IsTree c ts t → MeansChain c ts t x → x ≡ meaning c ts (unfolded c ts t)
-value_of_meant c ts t x l k a = a (unfolded c ts t) l (stands_unfolded c ts t l k)
+value_of_meant c ts t x l k a = a (unfolded c ts t) l (unfolds c ts l.0 l.1 t k) (stands_unfolded c ts t l k)
 
 pub fed_of_told : (c : Chain) (ts : List Ty) (t : Tree) (b : Bool) → IsLegal c ts → IsTree c ts t → IsFedChain c ts t b → b ≡ fed c ts (unfolded c ts t)
-fed_of_told c ts t b l k a = a (unfolded c ts t) l (stands_unfolded c ts t l k)
+fed_of_told c ts t b l k a = a (unfolded c ts t) l (unfolds c ts l.0 l.1 t k) (stands_unfolded c ts t l k)
 
 pub stands_more : (c : Chain) (ts : List Ty) (L fs : List (Feed c)) (t : Tree) → IsLegal c ts → AreFeeds c ts L → StandsFor c ts L t → StandsFor c ts (L ++ fs) (normal c ts (unfolded c ts t ++ fs))
 stands_more c ts L fs t l k e =

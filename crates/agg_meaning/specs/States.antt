@@ -60,10 +60,10 @@ Takes c ts r t v = TakesFeeds c ts (opened c r ∷ []) t v
 abbrev pub Joins : Chain → List Ty → Tree → Tree → Tree → Type 0
 Joins c ts t u v = (A B : List (Feed c)) → StandsFor c ts A t → StandsFor c ts B u → StandsFor c ts (A ++ B) v
 
--- the value of a chain's state
+-- the value of a chain's state that stands for feeds
 abbrev pub MeansChain : Chain → List Ty → Tree → Value → Type 0
-MeansChain c ts t x = (L : List (Feed c)) → IsLegal c ts → StandsFor c ts L t → x ≡ meaning c ts L
+MeansChain c ts t x = (L : List (Feed c)) → IsLegal c ts → AreFeeds c ts L → StandsFor c ts L t → x ≡ meaning c ts L
 
 -- whether it stands for rows that reached the function
 abbrev pub IsFedChain : Chain → List Ty → Tree → Bool → Type 0
-IsFedChain c ts t b = (L : List (Feed c)) → IsLegal c ts → StandsFor c ts L t → b ≡ fed c ts L
+IsFedChain c ts t b = (L : List (Feed c)) → IsLegal c ts → AreFeeds c ts L → StandsFor c ts L t → b ≡ fed c ts L
