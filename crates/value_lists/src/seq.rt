@@ -1,5 +1,5 @@
 //! Lists.
-ghost use Rattle.std.specs.Prelude.{◌≡◌, [], ◌∷◌, ◌++◌, length, take, IfOk, IsTrue, ◌↔◌, MatchOption, OnErr, OnOk};
+ghost use Rattle.std.specs.Prelude.{◌≡◌, [], ◌∷◌, ◌++◌, length, take, ◌+◌, ◌≤◌, IfOk, IsTrue, ◌↔◌, MatchOption, OnErr, OnOk, vec_capacity};
 
 use crate::OutOfMemory;
 use std::alloc::Global;
@@ -77,6 +77,9 @@ impl<T> Seq<T> {
 }
 
 impl<T: Drop> Seq<T> {
+    ghost use Rattle.std.specs.Borrow.{sem};
+    ghost use Rattle.value_lists.specs.Room.{LendsItems};
+
     /// Adds an item at the end.
     ///
     /// # Errors
@@ -97,7 +100,8 @@ impl<T: Drop> Seq<T> {
         self.items.truncate(len);
     }
 
-    /// Makes room for `more` items, so that as many pushes take no memory.
+    /// Asks for room for `more` items at once, so that pushes ask less often. That none of them fails
+    /// only [`Seq::with_room`] promises.
     ///
     /// # Errors
     ///
@@ -105,8 +109,23 @@ impl<T: Drop> Seq<T> {
     pub fn reserve(&mut self, more: usize) -> Result<(), OutOfMemory>
         ensures { self.new ≡ self.old }
     {
-        self.items.reserve(more)?;
+        self.with_room(more)?;
         Ok(())
+    }
+
+    /// Lends the items with room for `more` behind them: as many calls of `push_reserved` can't fail
+    /// and take no memory. The list ends with what stands in the loan then.
+    ///
+    /// # Errors
+    ///
+    /// [`OutOfMemory`] where there is no room; the list is as before.
+    pub fn with_room(&mut self, more: usize) -> Result<&mut Vec<T>, OutOfMemory>
+        ensures* writes_back { sem 𝓛 (LendsItems T.row self.entry result) }
+        ensures items { IfOk result (λ items. items.now.items ≡ self.old) }
+        ensures room { IfOk result (λ items. length self.old + more ≤ vec_capacity items.now) }
+    {
+        self.items.reserve(more)?;
+        Ok(&mut self.items)
     }
 }
 
