@@ -15,6 +15,7 @@ mod tree_order;
 mod trees;
 mod value_fits;
 
+pub use links::{Peels, first_type, front, intervals, peel, state_args};
 pub use order::{compare, compare_rows};
 pub use value_fits::fits;
 pub use value_types::{

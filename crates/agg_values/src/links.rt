@@ -10,7 +10,7 @@ use value_types::{Ty, element, map_item};
 
 /// How the types at a link come from those of the call. The steps further out lie behind the reference.
 #[derive(Clone, Copy)]
-pub(crate) enum Peels<'a> {
+pub enum Peels<'a> {
     /// The types as they are.
     Whole,
     /// The types of the elements of arrays.
@@ -20,7 +20,7 @@ pub(crate) enum Peels<'a> {
 }
 
 /// The type of an argument at a link.
-pub(crate) fn peel<'t>(peels: &Peels<'_>, ty: &'t Ty) -> &'t Ty
+pub fn peel<'t>(peels: &Peels<'_>, ty: &'t Ty) -> &'t Ty
     ensures { ty_of result.now ≡ peeled peels.now (ty_of ty.now) }
 {
     match peels {
@@ -31,7 +31,7 @@ pub(crate) fn peel<'t>(peels: &Peels<'_>, ty: &'t Ty) -> &'t Ty
 }
 
 /// The type of the first argument, or the other type where there is none.
-pub(crate) fn first_type<'t>(types: &'t [Ty], peels: &Peels<'_>, other: &'t Ty) -> &'t Ty
+pub fn first_type<'t>(types: &'t [Ty], peels: &Peels<'_>, other: &'t Ty) -> &'t Ty
     ensures { ty_of result.now ≡ get_or (types_of peels.now types.now) 0 (ty_of other.now) }
 {
     match types {
@@ -41,7 +41,7 @@ pub(crate) fn first_type<'t>(types: &'t [Ty], peels: &Peels<'_>, other: &'t Ty) 
 }
 
 /// All types but the last.
-pub(crate) fn front(types: &[Ty]) -> &[Ty]
+pub fn front(types: &[Ty]) -> &[Ty]
     ensures { result.now ≡ lists.front types.now }
 {
     match types.split_last() {
@@ -61,7 +61,7 @@ fn made_over(ty: &Ty) -> &[Ty]
 }
 
 /// The types that the state was made over, where the first argument is one.
-pub(crate) fn state_args<'t>(types: &'t [Ty], peels: &Peels<'_>) -> &'t [Ty]
+pub fn state_args<'t>(types: &'t [Ty], peels: &Peels<'_>) -> &'t [Ty]
     ensures { map ty_of result.now ≡ spec.state_args (spec.first_type (types_of peels.now types.now)) }
 {
     match types {
@@ -71,7 +71,7 @@ pub(crate) fn state_args<'t>(types: &'t [Ty], peels: &Peels<'_>) -> &'t [Ty]
 }
 
 /// How many places Resample has.
-pub(crate) fn intervals(start: i64, end: i64, step: u64) -> u128
+pub fn intervals(start: i64, end: i64, step: u64) -> u128
     ensures { result ≡ spec.intervals start end step }
 {
     if step == 0 {

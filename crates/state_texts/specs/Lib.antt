@@ -1,0 +1,5 @@
+pub mod Figures
+pub mod Versions
+pub mod Texts
+pub mod Spelled
+pub mod Laws
