@@ -4,13 +4,13 @@
 //! those of every list of steps do. Nothing here knows of threads: a turn of a turnstile is one such step.
 #![tactic(auto)]
 
-mod core;
 mod entry;
+mod steps;
 
 ghost use Rattle.history_core.specs.Legal.{EveryRunIsLegal};
 
-pub use core::Core;
 pub use entry::{CoreEvent, Entry};
+pub use steps::Core;
 
 /// The law of histories: for every list of steps in which each session's commits are different entries in the session's
 /// order, the notes and the history that it leaves are legal.
