@@ -64,7 +64,9 @@ cut-at : (left now : Option (List ℕ)) (m r : ℕ) (held after : List ℕ) (cut
     → IsCutOff left now m r held after (block_end stops cut (length after)) stops
 cut-at left now m r held after cut stop.More filled =
     cut-off left now m r held after cut stop.More filled filled.has_cut.whole (omega (arith, filled.stop.0, length-take-le cut after filled.has_cut.within))
-cut-at left now m r held after cut stop.Read filled = cut-off left now m r held after cut stop.Read filled filled.has_cut.whole filled.stop.unbroken
+cut-at left now m r held after cut stop.Read filled =
+    cut-off left now m r held after cut stop.Read filled filled.has_cut.whole
+    (record { unbroken = filled.stop.unbroken; line = omega (arith, filled.stop.line, length-drop cut after); input = omega (arith, filled.stop.input, length-drop cut after) })
 cut-at left now m r held after cut stop.TooLong filled =
     cut-off left now m r held after cut stop.TooLong filled filled.has_cut.whole (long-grows m (r - cut) (drop cut after) (told_of now) filled.stop)
 cut-at left now m r held after cut stop.TooLarge filled =

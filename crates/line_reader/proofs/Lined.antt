@@ -5,7 +5,7 @@ use Rattle.tsv_text.specs.Lines.{is_newline}
 use Rattle.line_reader.specs.declared.fault.LineFault.{LineFault}
 use Rattle.line_reader.specs.declared.fault.LineFault.TheVariants.{Read, TooLong, TooLarge, OutOfMemory}
 use Rattle.line_reader.specs.Ahead.{Ahead, IsInput, behind_line}
-use Rattle.line_reader.specs.Answers.{IsNext, ReadsNext}
+use Rattle.line_reader.specs.Answers.{IsHeld, IsNext, ReadsNext}
 use Rattle.line_reader.specs.Awaiting.{AwaitsLine, TakesLine}
 use Rattle.line_reader.specs.Limits.{next_of, behind_next, bytes_to_end, IsUnbroken}
 use Rattle.line_reader.proofs.Next.{next-cut, behind-cut, next-unbroken, behind-unbroken}
@@ -36,14 +36,21 @@ nothing-next left now m r before after answer awaited told next = record {
   next = next;
 }
 
+-- what was held and what was taken is held
+all-held : (left now : Option (List ℕ)) (m r : ℕ) (before after : List ℕ) (answer : Result (Option ℕ) LineFault) → AwaitsLine left now m r before after answer
+    → IsHeld (ahead_of m r before) (ahead_of m r after) (input_of after now) (input_of after now)
+all-held left now m r before after answer awaited = record { taken = awaited.taken; behind = awaited.behind; same = refl }
+
 pub fault-next : (left now : Option (List ℕ)) (m r : ℕ) (before after : List ℕ) (fault : LineFault) → AwaitsLine left now m r before after (Err fault)
     → ReadsNext left now (ahead_of m r before) (ahead_of m r after) (Err fault)
-fault-next left now m r before after Read awaited = nothing-next left now m r before after (Err Read) awaited (Err Read) awaited.holds
+fault-next left now m r before after Read awaited =
+    nothing-next left now m r before after (Err Read) awaited (Err Read) (all-held left now m r before after (Err Read) awaited, awaited.holds)
 fault-next left now m r before after TooLong awaited =
-    nothing-next left now m r before after (Err TooLong) awaited (Err TooLong) (long-grows m r after (told_of now) awaited.holds)
+    nothing-next left now m r before after (Err TooLong) awaited (Err TooLong) (all-held left now m r before after (Err TooLong) awaited, long-grows m r after (told_of now) awaited.holds)
 fault-next left now m r before after TooLarge awaited =
-    nothing-next left now m r before after (Err TooLarge) awaited (Err TooLarge) (large-grows m r after (told_of now) awaited.holds)
-fault-next left now m r before after OutOfMemory awaited = nothing-next left now m r before after (Err OutOfMemory) awaited (Err OutOfMemory) tt
+    nothing-next left now m r before after (Err TooLarge) awaited (Err TooLarge) (all-held left now m r before after (Err TooLarge) awaited, large-grows m r after (told_of now) awaited.holds)
+fault-next left now m r before after OutOfMemory awaited =
+    nothing-next left now m r before after (Err OutOfMemory) awaited (Err OutOfMemory) (all-held left now m r before after (Err OutOfMemory) awaited)
 
 nil-of : (xs : List ℕ) → length xs ≡ 0 → xs ≡ []
 nil-of [] e = refl
@@ -94,14 +101,14 @@ line-next left now m r before after at awaited ahead (Err Read) takes = absurd t
 line-next left now m r before after at awaited ahead (Err TooLong) takes = absurd takes
 line-next left now m r before after at awaited ahead (Err TooLarge) takes = absurd takes
 line-next left now m r before after at awaited ahead (Err OutOfMemory) takes =
-    subst (λ (a : Ahead). ReadsNext left now (ahead_of m r before) a (Err OutOfMemory)) (sym takes) (nothing-next left now m r before after (Ok (Some at)) awaited (Err OutOfMemory) tt)
+    subst (λ (a : Ahead). ReadsNext left now (ahead_of m r before) a (Err OutOfMemory)) (sym takes) (nothing-next left now m r before after (Ok (Some at)) awaited (Err OutOfMemory) (all-held left now m r before after (Ok (Some at)) awaited))
 
 -- the last line lacks its newline
 pub last-next : (left now : Option (List ℕ)) (m r : ℕ) (before after : List ℕ) → AwaitsLine left now m r before after (Ok None) → 0 < length after
     → (ahead : Ahead) (answer : Result (Option (List ℕ)) LineFault) → TakesLine (length after) (length after) (ahead_of m r after) ahead answer → ReadsNext left now (ahead_of m r before) ahead answer
 last-next left now m r before after awaited some ahead (Ok (Some line)) takes =
     let told = told-end now awaited.holds.0 in
-    let unbroken = awaited.holds.1 in
+    let unbroken = awaited.holds.1.unbroken in
     let input_is : input_of after now ≡ after = ap (λ (bytes : List ℕ). after ++ bytes) told ∙ append-nil after in
     let rest = drop (length after) after ++ told_of now in
     let rest_is : rest ≡ [] = λ i. drop_all (length after) after (omega arith) i ++ told i in
@@ -116,11 +123,11 @@ last-next left now m r before after awaited some ahead (Ok (Some line)) takes =
       to = (told_of now, refl, told-is now);
       next = (
         omega (arith, long, some),
-        (omega (arith, few, awaited.holds.2), omega (arith, long, awaited.holds.3)),
+        (omega (arith, few, awaited.holds.1.line), omega (arith, long, awaited.holds.1.input)),
         takes.0 ∙ take_all (length after) after (omega arith) ∙ sym next_is,
         rest_is ∙ sym (ap behind_next input_is ∙ behind-unbroken after unbroken),
         refl,
-        omega (arith, long, none, awaited.holds.3),
+        omega (arith, long, none, awaited.holds.1.input),
       );
     })
 last-next left now m r before after awaited some ahead (Ok None) takes = absurd takes
@@ -128,7 +135,7 @@ last-next left now m r before after awaited some ahead (Err Read) takes = absurd
 last-next left now m r before after awaited some ahead (Err TooLong) takes = absurd takes
 last-next left now m r before after awaited some ahead (Err TooLarge) takes = absurd takes
 last-next left now m r before after awaited some ahead (Err OutOfMemory) takes =
-    subst (λ (a : Ahead). ReadsNext left now (ahead_of m r before) a (Err OutOfMemory)) (sym takes) (nothing-next left now m r before after (Ok None) awaited (Err OutOfMemory) tt)
+    subst (λ (a : Ahead). ReadsNext left now (ahead_of m r before) a (Err OutOfMemory)) (sym takes) (nothing-next left now m r before after (Ok None) awaited (Err OutOfMemory) (all-held left now m r before after (Ok None) awaited))
 
 pub some-of : (xs : List ℕ) → (xs ≡ [] → false ≡ true) → 0 < length xs
 some-of [] h = let e : false ≡ true = h refl in cc

@@ -8,18 +8,24 @@ use Rattle.line_reader.specs.declared.fault.LineFault.TheVariants.{Read, TooLong
 use Rattle.line_reader.specs.declared.stop.Stop.{Stop}
 use Rattle.line_reader.specs.declared.stop.Stop.TheVariants as stop
 use Rattle.line_reader.specs.Ahead.{Ahead, IsInput}
-use Rattle.line_reader.specs.Limits.{next_of, behind_next, IsTooLong, IsTooLarge, IsWithin, IsUnbroken, ends_line, AreShort}
+use Rattle.line_reader.specs.Limits.{next_of, behind_next, IsBegun, IsTooLong, IsTooLarge, IsWithin, ends_line, AreShort}
 
--- The first line of the input, or why there is none. A fault of reading comes only where no complete line is held.
+-- Nothing is handed out: all that was held and all that was taken is held.
+pub record IsHeld (before after : Ahead) (input rest : List ℕ) : Type 0 where
+  pub taken : List ℕ
+  pub behind : after.held ≡ before.held ++ taken
+  pub same : rest ≡ input
+
+-- The first line of the input, or why there is none. A fault of reading comes only where what is held has no complete line and breaks no limit.
 abbrev pub IsNext : Ahead → Ahead → List ℕ → List ℕ → Result (Option (List ℕ)) LineFault → Type 0
 IsNext before after input rest (Ok (Some line)) =
     (0 < length input) × IsWithin before.most_line before.room input × (line ≡ next_of input) × (rest ≡ behind_next input)
     × (after.most_line ≡ before.most_line) × (after.room + length input ≡ before.room + length rest)
 IsNext before after input rest (Ok None) = (input ≡ []) × (rest ≡ []) × (after ≡ before)
-IsNext before after input rest (Err TooLong) = IsTooLong before.most_line before.room input
-IsNext before after input rest (Err TooLarge) = IsTooLarge before.most_line before.room input
-IsNext before after input rest (Err Read) = IsUnbroken after.held
-IsNext before after input rest (Err OutOfMemory) = Unit {0}
+IsNext before after input rest (Err TooLong) = IsHeld before after input rest × IsTooLong before.most_line before.room input
+IsNext before after input rest (Err TooLarge) = IsHeld before after input rest × IsTooLarge before.most_line before.room input
+IsNext before after input rest (Err Read) = IsHeld before after input rest × IsBegun before.most_line before.room after.held
+IsNext before after input rest (Err OutOfMemory) = IsHeld before after input rest
 
 -- The next line of what a source and a reader have left, and what they have left behind it.
 pub record ReadsNext (left now : Option (List ℕ)) (before after : Ahead) (answer : Result (Option (List ℕ)) LineFault) : Type 0 where
@@ -33,7 +39,7 @@ pub record ReadsNext (left now : Option (List ℕ)) (before after : Ahead) (answ
 abbrev pub StopsAt : Ahead → List ℕ → List ℕ → Stop → Type 0
 StopsAt after block rest stop.More = 0 < length block
 StopsAt after block rest stop.End = rest ≡ []
-StopsAt after block rest stop.Read = IsUnbroken after.held
+StopsAt after block rest stop.Read = IsBegun after.most_line after.room after.held
 StopsAt after block rest stop.TooLong = IsTooLong after.most_line after.room rest
 StopsAt after block rest stop.TooLarge = IsTooLarge after.most_line after.room rest
 

@@ -5,7 +5,7 @@ use Rattle.tsv_text.specs.Lines.{is_newline}
 use Rattle.line_reader.specs.declared.fault.LineFault.{LineFault}
 use Rattle.line_reader.specs.declared.fault.LineFault.TheVariants.{Read, TooLong, TooLarge, OutOfMemory}
 use Rattle.line_reader.specs.Ahead.{Ahead, behind_line}
-use Rattle.line_reader.specs.Limits.{IsTooLong, IsTooLarge, IsUnbroken}
+use Rattle.line_reader.specs.Limits.{IsBegun, IsTooLong, IsTooLarge, IsUnbroken}
 
 -- the first newline within what the input may have
 abbrev pub FindsLine : ℕ → List ℕ → Option ℕ → Type 0
@@ -15,10 +15,10 @@ FindsLine room bytes None = IsUnbroken (take room bytes)
 -- what is told of the bytes that are held then
 abbrev pub HoldsLine : ℕ → ℕ → Option (List ℕ) → List ℕ → Result (Option ℕ) LineFault → Type 0
 HoldsLine most_line room left bytes (Ok (Some at)) = FindsLine room bytes (Some at)
-HoldsLine most_line room left bytes (Ok None) = IsAtEnd left × IsUnbroken bytes × (length bytes ≤ most_line) × (length bytes ≤ room)
+HoldsLine most_line room left bytes (Ok None) = IsAtEnd left × IsBegun most_line room bytes
 HoldsLine most_line room left bytes (Err TooLong) = IsTooLong most_line room bytes
 HoldsLine most_line room left bytes (Err TooLarge) = IsTooLarge most_line room bytes
-HoldsLine most_line room left bytes (Err Read) = IsUnbroken bytes
+HoldsLine most_line room left bytes (Err Read) = IsBegun most_line room bytes
 HoldsLine most_line room left bytes (Err OutOfMemory) = Unit {0}
 
 -- Bytes that were taken stand behind those that were held.

@@ -32,6 +32,12 @@ abbrev pub IsUnbroken : List ℕ → Type 0
 IsUnbroken [] = Unit {0}
 IsUnbroken (b ∷ bs) = (is_newline b ≡ false) × IsUnbroken bs
 
+-- The bytes are no complete line, and break no limit.
+pub record IsBegun (most_line room : ℕ) (bytes : List ℕ) : Type 0 where
+  pub unbroken : IsUnbroken bytes
+  pub line : length bytes ≤ most_line
+  pub input : length bytes ≤ room
+
 -- no bytes, or the last of them is a newline
 abbrev pub ends_line : List ℕ → Bool
 ends_line [] = true
