@@ -37,7 +37,7 @@ gt_reverse Less = refl
 gt_reverse Equal = refl
 gt_reverse Greater = refl
 
-gt_lt : {X : Type 0} (cmp : X → X → Ordering) → IsOrder cmp → (a b : X) → is_gt (cmp a b) ≡ is_lt (cmp b a)
+pub gt_lt : {X : Type 0} (cmp : X → X → Ordering) → IsOrder cmp → (a b : X) → is_gt (cmp a b) ≡ is_lt (cmp b a)
 gt_lt cmp laws a b = ap is_gt (laws.flip a b) ∙ gt_reverse (cmp b a)
 
 higher_is_beating : {X : Type 0} (cmp : X → X → Ordering) → IsOrder cmp → IsBeating (λ a b. is_gt (cmp a b))

@@ -13,6 +13,7 @@ pub mod LeafFormed
 pub mod LeafLaws
 pub mod LeafTrees
 pub mod LegalExamples
+mod Orders
 pub mod Links
 pub mod Places
 pub mod Slots

@@ -3,6 +3,7 @@ pub mod Events
 pub mod EventLaws
 pub mod Results
 pub mod Functions
+pub mod Orders
 pub mod Picks
 pub mod Suffixes
 pub mod Lawful

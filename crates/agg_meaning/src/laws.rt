@@ -2,6 +2,7 @@
 
 ghost use Rattle.agg_meaning.specs.EventLaws.{LevelIsGreatest, LevelIsReached, MatchHasPlaces, PlacesAreMatch};
 ghost use Rattle.agg_meaning.specs.Laws.{FedIsKept, MeaningIsKept, MergesAre, NoneIsBlank, NormalsAreTrees, OnlyLiveFeed, OnlyLiveMean, OnlyLiveStay, SameStatesAreFed, SameStatesMean, StatesJoin, TreesAreNormal, TreesUnfold};
+ghost use Rattle.agg_meaning.specs.Orders.{HighestIsBest, LowestIsBest, RowsAreOrdered, TimesAreOrdered, ValuesAreOrdered};
 ghost use Rattle.agg_meaning.specs.StateLaws.{LeafRowsAreAdded, LeafUnfoldingIsFed, LeafUnfoldingIsMeant, LeafUnfoldingsAreJoined, RowsAreAdded, UnfoldingIsFed, UnfoldingIsMeant, UnfoldingTakesFeeds, UnfoldingsAreJoined};
 ghost use Rattle.agg_meaning.specs.ViewLaws.{AbsentIsBlank, GroupsAreJoined, GroupsAscend, SameTablesAnswer, TablesAreMerged, TablesJoin, TablesReload};
 
@@ -12,6 +13,16 @@ pub fn law_events()
     ensures level_is_greatest { LevelIsGreatest }
     ensures match_has_places { MatchHasPlaces }
     ensures places_are_match { PlacesAreMatch }
+{}
+
+/// The orders that the definitions use: of values, of rows and keys, of events by their times, and which of two values or
+/// pairs is better. What `law_lists` of agg_terms says of lists that are in order holds at each of them.
+pub fn law_orders()
+    ensures values { ValuesAreOrdered }
+    ensures rows { RowsAreOrdered }
+    ensures times { TimesAreOrdered }
+    ensures lowest { LowestIsBest }
+    ensures highest { HighestIsBest }
 {}
 
 /// The laws of normal forms, for every legal chain, all lists of feeds and every state tree: merging, storing and

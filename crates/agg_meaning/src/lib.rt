@@ -7,4 +7,4 @@
 
 mod laws;
 
-pub use laws::{law_events, law_stands, law_states, law_views};
+pub use laws::{law_events, law_orders, law_stands, law_states, law_views};

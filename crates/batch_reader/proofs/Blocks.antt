@@ -15,7 +15,7 @@ use Rattle.line_reader.specs.Ahead.{Ahead, IsInput}
 use Rattle.line_reader.specs.Answers.{IsWhole, ReadsBlock, StopsAt}
 use Rattle.line_reader.specs.declared.stop.Stop.{Stop}
 use Rattle.line_reader.specs.declared.stop.Stop.TheVariants as stop
-use Rattle.line_reader.specs.Limits.{ends_line, AreShort, IsTooLong, IsTooLarge}
+use Rattle.line_reader.specs.Limits.{ends_line, AreShort, IsBegun, IsTooLong, IsTooLarge}
 use Rattle.line_reader.proofs.Filled.{consumes-none, consumes-more}
 use Rattle.line_reader.proofs.Handed.{input-before, told_of, told-is}
 use Rattle.line_reader.proofs.Lines.{lines_of-append, lines_of-nil, ends_line-append, short-append}
@@ -181,11 +181,11 @@ read-end reads types left now first ahead batch so_far rest to none =
 -- a fault of reading, or a broken limit
 pub read-fault : (reads : ReadsStates) (types : List Ty) (left now : Option (List ℕ)) (first ahead : Ahead) (batch : Rows) → IsReadTo reads types left now first ahead batch stop.Read
     → (block rest : List ℕ) → IsInput now ahead rest → StopsAt ahead block rest stop.Read → ReadsRows reads types left now first (Err fault.Read)
-read-fault reads types left now first ahead batch so_far block rest to unbroken = record {
+read-fault reads types left now first ahead batch so_far block rest to begun = record {
   input = so_far.front ++ rest;
   from = input-read reads types left now first ahead batch stop.Read so_far rest to;
-  reading = up-to reads types left now first ahead batch stop.Read so_far rest so_far.whole (λ room rows after. IsTakenOpen now after)
-      (record { held = ahead.held; behind = to.0; split = to.1; unbroken = unbroken; told = to.2 });
+  reading = up-to reads types left now first ahead batch stop.Read so_far rest so_far.whole (λ room rows after. IsTakenOpen now first.most_line room after)
+      (record { held = ahead.held; behind = to.0; split = to.1; begun = subst (λ (m : ℕ). IsBegun m ahead.room ahead.held) so_far.most_line begun; told = to.2 });
 }
 
 pub read-long : (reads : ReadsStates) (types : List Ty) (left now : Option (List ℕ)) (first ahead : Ahead) (batch : Rows) → IsReadTo reads types left now first ahead batch stop.TooLong

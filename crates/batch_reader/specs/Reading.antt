@@ -10,7 +10,7 @@ use Rattle.tsv_text.specs.Lines.{lines_of}
 use Rattle.scalar_texts.specs.States.{ReadsStates}
 use Rattle.columns.specs.Rows.{Rows}
 use Rattle.line_reader.specs.Ahead.{Ahead, IsInput}
-use Rattle.line_reader.specs.Limits.{ends_line, AreShort, IsTooLong, IsTooLarge, IsUnbroken}
+use Rattle.line_reader.specs.Limits.{ends_line, AreShort, IsBegun, IsTooLong, IsTooLarge}
 use Rattle.row_texts.specs.Rows.{AreRows, IsFirstRefused}
 use Rattle.row_texts.specs.declared.refusal.LineRefusal.{LineRefusal}
 use Rattle.row_texts.specs.declared.refusal.LineRefusal.TheVariants as line
@@ -47,12 +47,12 @@ pub record RefusesAt (reads : ReadsStates) (types : List Ty) (ahead : Ahead) (in
   pub is_front : IsFront ahead input front rest
   pub refused : IsFirstRefused reads types (lines_of front) row refusal
 
--- What follows is bytes that were taken and have no newline, and then what the source has left, where it tells it.
-pub record IsTakenOpen (now : Option (List ℕ)) (rest : List ℕ) : Type 0 where
+-- What follows is bytes that were taken, which are no complete line and break no limit, and then what the source has left, where it tells it.
+pub record IsTakenOpen (now : Option (List ℕ)) (most_line room : ℕ) (rest : List ℕ) : Type 0 where
   pub held : List ℕ
   pub behind : List ℕ
   pub split : rest ≡ held ++ behind
-  pub unbroken : IsUnbroken held
+  pub begun : IsBegun most_line room held
   pub told : IfSome now (λ told. behind ≡ told)
 
 -- The rows of the whole input, or the first thing that is wrong with it: a refused row, a broken limit, or a fault of reading. Each comes
@@ -65,7 +65,7 @@ IsReading reads types now ahead input (Err (FieldCount row want have)) = Refuses
 IsReading reads types now ahead input (Err (TooLong row)) =
     AreRowsUpTo reads types ahead input (λ room rows rest. (row ≡ length rows + 1) × IsTooLong ahead.most_line room rest)
 IsReading reads types now ahead input (Err TooLarge) = AreRowsUpTo reads types ahead input (λ room rows rest. IsTooLarge ahead.most_line room rest)
-IsReading reads types now ahead input (Err Read) = AreRowsUpTo reads types ahead input (λ room rows rest. IsTakenOpen now rest)
+IsReading reads types now ahead input (Err Read) = AreRowsUpTo reads types ahead input (λ room rows rest. IsTakenOpen now ahead.most_line room rest)
 IsReading reads types now ahead input (Err OutOfMemory) = Unit {0}
 
 -- The answer to what a reader of lines and its source have left.

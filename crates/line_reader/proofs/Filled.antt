@@ -1,8 +1,8 @@
 -- The whole lines of a block that grows.
-use Rattle.std.proofs.Common.{◌≡◌, ℕ, zero, suc, ◌+◌, ◌-◌, ◌≤◌, ◌<◌, true, List, [], ◌∷◌, ◌++◌, Option, None, Some, length, take, drop, min, refl, sym, ap, ◌∙◌, arith, subst, append_assoc, length-append, length-drop, length-take}
+use Rattle.std.proofs.Common.{◌≡◌, ℕ, ◌+◌, ◌-◌, ◌≤◌, true, List, [], ◌++◌, Option, None, Some, length, take, drop, min, refl, sym, ap, ◌∙◌, arith, subst, append_assoc, length-append, length-drop, length-take}
 use Rattle.std.proofs.lemmas.List.{take_all, drop-drop, take-take, drop-take, take-append-le, length-take-le}
 use Rattle.std.proofs.lemmas.Bool.{cases_lt}
-use mathlib.Core.Logic.{◌⊎◌, inl, inr}
+use mathlib.Core.Logic.{inl, inr}
 use Rattle.std.proofs.Math.Seq.{take-add}
 use Rattle.std.specs.List.{slice_range}
 use Rattle.std.specs.Io.KnownBytes.{Consumes, Keeps}

@@ -1,6 +1,6 @@
 -- A block that was filled is read.
-use Rattle.std.proofs.Common.{◌≡◌, ℕ, zero, suc, ◌+◌, ◌-◌, ◌≤◌, ◌<◌, true, List, [], ◌∷◌, ◌++◌, Option, None, Some, length, take, drop, refl, sym, ap, ◌∙◌, arith, subst, append_assoc, length-append, length-drop, take-append-drop}
-use Rattle.std.proofs.lemmas.List.{append-nil, take_all, drop_all, length-take-le}
+use Rattle.std.proofs.Common.{◌≡◌, ℕ, ◌+◌, ◌-◌, ◌≤◌, List, [], ◌++◌, Option, None, Some, length, take, drop, refl, sym, ap, ◌∙◌, arith, subst, append_assoc, length-drop, take-append-drop}
+use Rattle.std.proofs.lemmas.List.{take_all, drop_all, length-take-le}
 use Rattle.std.specs.Option.{IfSome}
 use Rattle.std.specs.Io.KnownBytes.{Consumes, IsAtEnd}
 use Rattle.tsv_text.specs.Lines.{lines_of}
@@ -8,8 +8,8 @@ use Rattle.line_reader.specs.declared.stop.Stop.{Stop}
 use Rattle.line_reader.specs.declared.stop.Stop.TheVariants as stop
 use Rattle.line_reader.specs.Ahead.{Ahead, IsInput}
 use Rattle.line_reader.specs.Answers.{ReadsBlock, StopsAt, IsWhole}
-use Rattle.line_reader.specs.Filling.{FillsBlock, FillStops, HasCut, IsOpen, StopsHere, block_end}
-use Rattle.line_reader.specs.Limits.{ends_line, AreShort, IsTooLong, IsTooLarge}
+use Rattle.line_reader.specs.Filling.{FillsBlock, HasCut, block_end}
+use Rattle.line_reader.specs.Limits.{AreShort}
 use Rattle.line_reader.proofs.Lines.{lines_of-append, short-append, short-few}
 use Rattle.line_reader.proofs.Grown.{long-grows, large-grows}
 

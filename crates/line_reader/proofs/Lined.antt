@@ -1,13 +1,12 @@
 -- A line that was waited for is the next one.
-use Rattle.std.proofs.Common.{◌≡◌, ℕ, zero, suc, ◌+◌, ◌-◌, ◌≤◌, ◌<◌, false, true, List, [], ◌∷◌, ◌++◌, Option, None, Some, Result, Ok, Err, length, take, drop, get_or, min, refl, sym, ap, ◌∙◌, arith, subst, append_assoc, length-append, length-drop, take-append-drop, drop-cons}
+use Rattle.std.proofs.Common.{◌≡◌, ℕ, suc, ◌+◌, ◌<◌, false, true, List, [], ◌∷◌, ◌++◌, Option, None, Some, Result, Ok, Err, length, take, drop, get_or, refl, sym, ap, ◌∙◌, arith, subst, append_assoc, length-append, take-append-drop, drop-cons}
 use Rattle.std.proofs.lemmas.List.{append-nil, take_all, drop_all, length-take-le}
-use Rattle.tsv_text.specs.Lines.{is_newline}
 use Rattle.line_reader.specs.declared.fault.LineFault.{LineFault}
 use Rattle.line_reader.specs.declared.fault.LineFault.TheVariants.{Read, TooLong, TooLarge, OutOfMemory}
-use Rattle.line_reader.specs.Ahead.{Ahead, IsInput, behind_line}
+use Rattle.line_reader.specs.Ahead.{Ahead, IsInput}
 use Rattle.line_reader.specs.Answers.{IsHeld, IsNext, ReadsNext}
 use Rattle.line_reader.specs.Awaiting.{AwaitsLine, TakesLine}
-use Rattle.line_reader.specs.Limits.{next_of, behind_next, bytes_to_end, IsUnbroken}
+use Rattle.line_reader.specs.Limits.{next_of, behind_next}
 use Rattle.line_reader.proofs.Next.{next-cut, behind-cut, next-unbroken, behind-unbroken}
 use Rattle.line_reader.proofs.Grown.{long-grows, large-grows}
 use Rattle.line_reader.proofs.Handed.{ahead_of, told_of, told-is, told-consumed, told-end}

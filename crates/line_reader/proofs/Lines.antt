@@ -1,9 +1,9 @@
 -- The lines of bytes, from the left.
-use Rattle.std.proofs.Common.{◌≡◌, ℕ, zero, suc, ◌+◌, ◌≤◌, ◌<◌, Bool, true, false, cond, List, [], ◌∷◌, ◌++◌, length, take, drop, refl, sym, ap, ◌∙◌, arith, subst}
+use Rattle.std.proofs.Common.{◌≡◌, ℕ, zero, suc, ◌+◌, ◌≤◌, Bool, true, false, cond, List, [], ◌∷◌, ◌++◌, length, refl, sym, ap, ◌∙◌, arith, subst}
 use Rattle.std.specs.List.{slice_split, onto_first}
 use Rattle.std.proofs.lemmas.Bool.Decides.{nat_tests}
 use Rattle.tsv_text.specs.Lines.{is_newline, lines_of, without_empty_last}
-use Rattle.line_reader.specs.Limits.{ends_line, IsUnbroken, AreShort}
+use Rattle.line_reader.specs.Limits.{ends_line, AreShort}
 
 -- a list of parts is never empty, so that the part before it is kept
 front-kept : (x : List ℕ) (bs : List ℕ) → without_empty_last (x ∷ slice_split is_newline bs) ≡ x ∷ without_empty_last (slice_split is_newline bs)

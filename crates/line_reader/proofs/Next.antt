@@ -1,12 +1,12 @@
 -- The first line of bytes.
-use Rattle.std.proofs.Common.{◌≡◌, ℕ, zero, suc, ◌+◌, ◌-◌, ◌≤◌, ◌<◌, drop-cons, Bool, true, false, not, cond, List, [], ◌∷◌, ◌++◌, length, take, drop, get_or, min, refl, sym, ap, ◌∙◌, arith, subst, inl, inr, length-append}
+use Rattle.std.proofs.Common.{◌≡◌, ℕ, suc, ◌+◌, ◌-◌, ◌≤◌, ◌<◌, drop-cons, true, false, not, cond, List, [], ◌∷◌, ◌++◌, length, take, drop, get_or, refl, sym, ap, ◌∙◌, arith, subst, inl}
 use Rattle.std.proofs.lemmas.List.{take_all, drop_all, take_at, drop_at, drop-drop, length-take-le}
 use Rattle.std.proofs.lemmas.Bool.Decides.{nat_tests}
 use Rattle.std.proofs.Math.Seq.{take-suc}
 use Rattle.line_reader.proofs.Lines.{Kind, newline, other, kind_of}
-use Rattle.std.specs.List.{position_or_len, before_first, after_first}
+use Rattle.std.specs.List.{position_or_len}
 use Rattle.tsv_text.specs.Lines.{is_newline}
-use Rattle.line_reader.specs.Limits.{ends_line, next_of, behind_next, bytes_to_end, IsTooLong, IsTooLarge, IsUnbroken}
+use Rattle.line_reader.specs.Limits.{ends_line, next_of, behind_next, IsTooLong, IsTooLarge, IsUnbroken}
 
 -- how far the first newline is
 place-unbroken : (a : List ℕ) → IsUnbroken a → position_or_len is_newline a ≡ length a

@@ -1,9 +1,9 @@
-use Rattle.std.proofs.Common.{◌≡◌, [], ◌++◌, ◌∙◌, List, ℕ, ap, arith, refl, sym, subst, append_assoc}
+use Rattle.std.proofs.Common.{[], ◌++◌, ◌∙◌, List, ℕ, ap, arith, refl, sym, subst, append_assoc}
 use Rattle.std.proofs.lemmas.List.{append-nil}
 use Rattle.agg_ports.specs.Ports.{TakeCause}
 use Rattle.line_reader.specs.Taking.{TakesBehind}
 use Rattle.line_reader.specs.Filling.{HasCut, IsOpen}
-use Rattle.line_reader.proofs.Filled.{no-cut, consumes-none, consumes-more, keeps-consumed, cut-kept}
+use Rattle.line_reader.proofs.Filled.{no-cut, consumes-none, consumes-more, cut-kept}
 use Rattle.line_reader.proofs.filling.fill.Goals as goal
 
 pub loop-init : goal.loop-init

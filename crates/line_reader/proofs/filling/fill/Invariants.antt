@@ -1,4 +1,4 @@
-use Rattle.std.proofs.Common.{◌≡◌, ◌≤◌, ◌++◌, ℕ, List, Option, length}
+use Rattle.std.proofs.Common.{◌≡◌, ◌++◌, ℕ, List, Option}
 use Rattle.std.specs.Io.KnownBytes.{Consumes}
 use Rattle.line_reader.specs.Filling.{HasCut}
 use Rattle.line_reader.proofs.filling.fill.Given as goal

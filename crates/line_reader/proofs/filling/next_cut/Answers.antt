@@ -1,4 +1,4 @@
-use Rattle.std.proofs.Common.{arith, length-drop, length-take, take}
+use Rattle.std.proofs.Common.{arith}
 use Rattle.line_reader.proofs.Filled.{further-cut, open-behind, run-few}
 use Rattle.line_reader.proofs.filling.next_cut.Goals as goal
 

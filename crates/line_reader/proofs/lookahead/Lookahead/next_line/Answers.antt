@@ -1,4 +1,4 @@
-use Rattle.std.proofs.Common.{ℕ, Option, None, Some, Ok, Err, subst}
+use Rattle.std.proofs.Common.{ℕ, Option, Ok, Err, subst}
 use Rattle.line_reader.specs.Ahead.{Ahead}
 use Rattle.line_reader.specs.Answers.{ReadsNext}
 use Rattle.line_reader.specs.Awaiting.{AwaitsLine, TakesLine}

@@ -1,4 +1,4 @@
-use Rattle.std.proofs.Common.{◌≡◌, ◌-◌, ◌++◌, ◌∙◌, List, ℕ, ap, drop, subst, take}
+use Rattle.std.proofs.Common.{◌≡◌, ◌-◌, ◌++◌, ◌∙◌, ℕ, ap, drop, subst, take}
 use Rattle.line_reader.specs.Ahead.{Ahead}
 use Rattle.line_reader.specs.Answers.{ReadsBlock}
 use Rattle.line_reader.specs.Filling.{block_end}
