@@ -1,3 +1,4 @@
 pub mod Figures
+pub mod Versions
 pub mod Trees
 pub mod Short

@@ -1,0 +1,10 @@
+pub mod Exact
+pub mod Kept
+pub mod Values
+pub mod Leaves
+pub mod Chains
+pub mod Whole
+pub mod Closed
+pub mod Inside
+pub mod Steady
+pub mod Fronts
