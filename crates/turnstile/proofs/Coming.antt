@@ -1,23 +1,20 @@
 -- The rule at the start, and that a draw, a step at the door and a poll keep it.
-use Rattle.std.proofs.Common.{◌≡◌, ◌≢◌, ◌⊎◌, ℕ, zero, suc, ◌+◌, ◌-◌, ◌*◌, ◌%◌, ◌^◌, ◌<◌, ◌≤◌, List, [], ◌∷◌, ◌++◌, length, set, refl, sym, ap, ◌∙◌, subst, inl, inr, ⊎_elim, arith, Option, Some, None, length-append, length-set}
+use Rattle.std.proofs.Common.{◌≡◌, ℕ, zero, suc, ◌+◌, ◌-◌, ◌%◌, ◌^◌, ◌<◌, ◌≤◌, List, [], ◌∷◌, length, set, refl, sym, ap, ◌∙◌, subst, inl, inr, ⊎_elim, arith, Option, Some, length-set}
 use Rattle.std.specs.Prelude.{slice_index, slice_set}
 use mathlib.Core.Logic.{dite}
 use mathlib.Core.Option.{some, none, some-ne-none, some-injective}
-use mathlib.Core.Option as maybe
 use mathlib.Core.List.{IsPrefix}
 use native.Mathlib.Decide.{ℕ_discrete}
 use lib.ListN.{get_elem?}
-use Rattle.atomic_table.specs.Table.{State, Me, step, keeps, takes, gives, Allows, Splits, Joins, opening, rest}
-use Rattle.atomic_table.proofs.Lists.{at_set, set_here, set_else, set_again, at_longer}
+use Rattle.atomic_table.specs.Table.{State, Me, step, keeps, takes, Allows, opening}
+use Rattle.atomic_table.proofs.Lists.{set_again}
 use Rattle.history_core.specs.declared.entry.Entry.{Entry}
 use Rattle.turnstile.specs.declared.view.View.{View}
-use Rattle.turnstile.specs.declared.view.Stage.{Stage}
-use Rattle.turnstile.specs.declared.view.Stage.TheVariants.{Spent, Idle, Waits, InTurn, Acted}
-use Rattle.turnstile.specs.Known.{Settled}
-use Rattle.turnstile.specs.Rules.{total, root, quota_of, ticket_of, Stands, IsHeld, Lives, People, Midway, IsHome, IsOut, Turning, parted, newcomer, joined, nobody}
-use Rattle.turnstile.specs.Steps.{shown, Knocks, Draws, Polls, Commits, Looks, PassesOn, Checks, ticket_or, found_or}
-use Rattle.turnstile.proofs.People.{first_people, people_move, people_look, people_commit, people_split, people_join, people_settled, people_alone}
-use Rattle.turnstile.proofs.Lists.{put, put_here, put_else, total_set, total_at, set_at, each_set, prefix_self, prefix_more, at_end, total_snoc}
+use Rattle.turnstile.specs.declared.view.Stage.TheVariants.{Idle, Waits, InTurn}
+use Rattle.turnstile.specs.Rules.{total, root, quota_of, ticket_of, Stands, IsOut, Turning}
+use Rattle.turnstile.specs.Steps.{Draws, Polls, ticket_or}
+use Rattle.turnstile.proofs.People.{first_people, people_move}
+use Rattle.turnstile.proofs.Lists.{put, put_here, put_else, total_set, total_at, set_at, each_set}
 use Rattle.turnstile.proofs.Stands.{wraps, off, waits_live, in_turn_live, idle_live, held_same, held_draw, has_ticket, stands_draw, out_stays, its_own}
 
 module _ {T G : Type 0} (history : T → List Entry) (basis : T → G) (g : G) where

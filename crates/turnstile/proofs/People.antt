@@ -1,21 +1,21 @@
 -- What each step keeps of the passes, their numbers and the history.
-use Rattle.std.proofs.Common.{◌≡◌, ◌≢◌, ◌⊎◌, ℕ, zero, suc, ◌+◌, ◌-◌, ◌<◌, ◌≤◌, List, [], ◌∷◌, ◌++◌, length, set, refl, sym, ap, ◌∙◌, subst, inl, inr, ⊎_elim, arith, Option, Some, None, length-append, length-set}
+use Rattle.std.proofs.Common.{◌≡◌, ◌≢◌, ℕ, zero, suc, ◌+◌, ◌-◌, ◌≤◌, List, [], ◌∷◌, ◌++◌, length, set, refl, sym, ap, ◌∙◌, subst, inl, inr, ⊎_elim, arith, length-set}
 use mathlib.Core.Logic.{dite}
-use mathlib.Core.Option.{some, none, some-ne-none, some-injective}
+use mathlib.Core.Option.{some, some-ne-none, some-injective}
 use mathlib.Core.List.{IsPrefix}
 use native.Mathlib.Decide.{ℕ_discrete, dec_le}
 use lib.ListN.{get_elem?}
-use Rattle.atomic_table.proofs.Lists.{at_set, set_else, at_longer, at_last}
+use Rattle.atomic_table.proofs.Lists.{set_else, at_longer, at_last}
 use Rattle.agg_terms.specs.Lists.{Among, Apart}
 use Rattle.history_core.specs.declared.entry.Entry.{Entry}
 use Rattle.history_core.specs.History.{entries_of}
 use Rattle.turnstile.specs.declared.view.View.{View}
 use Rattle.turnstile.specs.declared.view.Stage.{Stage}
 use Rattle.turnstile.specs.declared.view.Stage.TheVariants.{Spent, Idle, Waits, InTurn, Acted}
-use Rattle.turnstile.specs.Known.{numbers, longer, shorter, Settled}
+use Rattle.turnstile.specs.Known.{numbers, Settled}
 use Rattle.turnstile.specs.Rules.{total, root, live_of, is_live, Lives, HasPass, People, parted, newcomer, joined, nobody}
 use Rattle.turnstile.specs.Steps.{shown}
-use Rattle.turnstile.proofs.Lists.{put, put_here, put_else, total_set, total_at, total_two, total_snoc, set_at, each_set, at_end, prefix_self, prefix_more, prefix_trans, prefix_shorter, prefix_whole, prefix_length, entries_of-own, entries_of-other, longer_is, among_end, among_last, among_longer, apart_end, numbers_end, kept_with, among_number}
+use Rattle.turnstile.proofs.Lists.{put, put_here, put_else, total_set, total_two, total_snoc, set_at, each_set, at_end, prefix_self, prefix_more, prefix_trans, entries_of-own, entries_of-other, longer_is, among_end, among_last, among_longer, apart_end, numbers_end, kept_with, among_number}
 
 pub live_one : (st : Stage) → st ≢ Spent → live_of st ≡ 1
 live_one Spent live = absurd (live refl)

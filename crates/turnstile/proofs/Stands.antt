@@ -1,23 +1,16 @@
 -- Where passes stand: stages, tickets and who has them, as steps move them.
-use Rattle.std.proofs.Common.{◌≡◌, ◌≢◌, ◌⊎◌, ℕ, zero, suc, ◌+◌, ◌-◌, ◌*◌, ◌%◌, ◌^◌, ◌<◌, ◌≤◌, List, [], ◌∷◌, ◌++◌, length, set, refl, sym, ap, ◌∙◌, subst, inl, inr, ⊎_elim, arith, Option, Some, None, length-append, length-set}
-use Rattle.std.specs.Prelude.{slice_index, slice_set}
+use Rattle.std.proofs.Common.{◌≡◌, ◌≢◌, ℕ, ◌+◌, ◌%◌, ◌^◌, ◌<◌, ◌≤◌, List, [], ◌∷◌, ◌++◌, length, set, sym, ap, ◌∙◌, subst, arith, Option, Some}
 use mathlib.Core.Logic.{dite}
-use mathlib.Core.Option.{some, none, some-ne-none, some-injective}
-use mathlib.Core.Option as maybe
-use mathlib.Core.List.{IsPrefix}
+use mathlib.Core.Option.{some, some-ne-none, some-injective}
 use native.Mathlib.Decide.{ℕ_discrete}
 use lib.ListN.{get_elem?}
-use Rattle.atomic_table.specs.Table.{State, Me, step, keeps, takes, gives, Allows, Splits, Joins, opening, rest}
-use Rattle.atomic_table.proofs.Lists.{at_set, set_here, set_else, set_again, at_longer}
+use Rattle.atomic_table.proofs.Lists.{set_else, at_longer}
 use Rattle.history_core.specs.declared.entry.Entry.{Entry}
 use Rattle.turnstile.specs.declared.view.View.{View}
 use Rattle.turnstile.specs.declared.view.Stage.{Stage}
 use Rattle.turnstile.specs.declared.view.Stage.TheVariants.{Spent, Idle, Waits, InTurn, Acted}
-use Rattle.turnstile.specs.Known.{Settled}
-use Rattle.turnstile.specs.Rules.{total, root, quota_of, ticket_of, Stands, IsHeld, Lives, People, Midway, IsHome, IsOut, Turning, parted, newcomer, joined, nobody}
-use Rattle.turnstile.specs.Steps.{shown, Knocks, Draws, Polls, Commits, Looks, PassesOn, Checks, ticket_or, found_or}
-use Rattle.turnstile.proofs.People.{first_people, people_move, people_look, people_commit, people_split, people_join, people_settled, people_alone}
-use Rattle.turnstile.proofs.Lists.{put, put_here, put_else, total_set, total_at, set_at, each_set, prefix_self, prefix_more, at_end, total_snoc}
+use Rattle.turnstile.specs.Rules.{ticket_of, Stands, IsHeld, Midway, IsOut}
+use Rattle.turnstile.proofs.Lists.{put, put_here, put_else, set_at}
 use Rattle.std.proofs.Math.Nat.{mod-eq_of_lt}
 
 pub wraps : (n : ℕ) → n + 1 < 2 ^ 64 → (n + 1) % 2 ^ 64 ≡ n + 1

@@ -1,4 +1,4 @@
-use Rattle.std.proofs.Common.{rules, ap, ◌∙◌}
+use Rattle.std.proofs.Common.{rules, ◌∙◌}
 use Rattle.turnstile.proofs.Joining.{joins, checks}
 use Rattle.turnstile.proofs.turnstile.Turnstile.join.Goals as goal
 

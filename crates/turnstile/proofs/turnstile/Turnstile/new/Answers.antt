@@ -1,4 +1,4 @@
-use Rattle.std.proofs.Common.{rules, refl, ◌∷◌, ◌++◌, [], ap, sym, ◌∙◌, subst, Some}
+use Rattle.std.proofs.Common.{◌∷◌, ◌++◌, [], ap, sym, ◌∙◌, subst, Some}
 use Rattle.atomic_table.specs.Table.{opening}
 use Rattle.turnstile.specs.Rules.{Turning, root}
 use Rattle.turnstile.proofs.Coming.{opens}

@@ -1,4 +1,4 @@
-use Rattle.std.proofs.Common.{rules, [], ap, sym, ◌∙◌, subst, refl}
+use Rattle.std.proofs.Common.{rules, subst}
 use Rattle.turnstile.specs.Turns.{Adds}
 use Rattle.turnstile.proofs.Acting.{commits, looks}
 use Rattle.turnstile.proofs.turnstile.Turnstile.settle.Goals as goal

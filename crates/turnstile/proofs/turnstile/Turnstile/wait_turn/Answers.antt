@@ -1,4 +1,4 @@
-use Rattle.std.proofs.Common.{rules, [], ap, sym, ◌∙◌}
+use Rattle.std.proofs.Common.{rules, ap, ◌∙◌}
 use Rattle.turnstile.proofs.Coming.{polls}
 use Rattle.turnstile.proofs.turnstile.Turnstile.wait_turn.Goals as goal
 
