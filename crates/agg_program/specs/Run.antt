@@ -88,12 +88,12 @@ abbrev pub text_of : Result (List ℕ) Status → List ℕ
 text_of (Ok text) = text
 text_of (Err s) = error_line s
 
--- What a run may come to, where the words and the input call for this: that, a fault of reading, or want of memory.
-abbrev pub MayComeTo : Result (List ℕ) Status → Result (List ℕ) Status → Type 0
-MayComeTo expected (Ok text) = expected ≡ Ok text
-MayComeTo expected (Err status.ReadFault) = Unit {0}
-MayComeTo expected (Err status.OutOfMemory) = Unit {0}
-MayComeTo expected (Err s) = expected ≡ Err s
+-- What a run may come to, where the words and the input call for this: that, a fault of reading where the source failed, or want of memory.
+abbrev pub MayComeTo : (Failed : Type 0) → Result (List ℕ) Status → Result (List ℕ) Status → Type 0
+MayComeTo Failed expected (Ok text) = expected ≡ Ok text
+MayComeTo Failed expected (Err status.ReadFault) = Failed
+MayComeTo Failed expected (Err status.OutOfMemory) = Unit {0}
+MayComeTo Failed expected (Err s) = expected ≡ Err s
 
 -- the words as texts
 abbrev pub texts_of : List (String Global) → List (List ℕ)
@@ -104,12 +104,12 @@ abbrev pub WritesAnswer : List (List ℕ) → List ℕ → Option (List ℕ) →
 WritesAnswer words input before after =
     (output : List ℕ) × (outcome words input ≡ Ok output) × Appends before after output
 
--- What was written is a front of what the words and the input call for, or of the error line of a fault of reading or
--- of want of memory.
-abbrev pub WritesFront : List (List ℕ) → List ℕ → Option (List ℕ) → Option (List ℕ) → Type 0
-WritesFront words input before after =
+-- What was written is a front of what the words and the input call for, or of the error line of want of memory, or, where the
+-- source failed, of a fault of reading.
+abbrev pub WritesFront : (Failed : Type 0) → List (List ℕ) → List ℕ → Option (List ℕ) → Option (List ℕ) → Type 0
+WritesFront Failed words input before after =
     (told : Result (List ℕ) Status)
-    × MayComeTo (outcome words input) told
+    × MayComeTo Failed (outcome words input) told
     × (n : ℕ)
     × Appends before after (take n (text_of told))
 

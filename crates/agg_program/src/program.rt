@@ -95,9 +95,9 @@ pub fn run<R: Threads + Clone + Send + Sync + Drop, S: Source, K: Sink>(
     ensures read { result ≡ Status.ReadFault → Rose (S.faults source.old) (S.faults source.new) }
     ensures write { result ≡ Status.WriteFault → Rose (K.faults sink.old) (K.faults sink.new) }
 
-    // Where the sink failed, it holds a front of what was to be written.
+    // Where the sink failed, it holds a front of what was to be written: of a read fault's line only where the source failed.
     ensures cut { result ≡ Status.WriteFault → IfSome (S.left source.old) (λ input.
-        WritesFront (texts_of words.now) input (K.held sink.old) (K.held sink.new)) }
+        WritesFront (Rose (S.faults source.old) (S.faults source.new)) (texts_of words.now) input (K.held sink.old) (K.held sink.new)) }
 
     // Where the words and the input are accepted and nothing fails, only want of memory hinders the answer.
     ensures complete { IfSome (S.left source.old) (λ input. IsAccepted (outcome (texts_of words.now) input)

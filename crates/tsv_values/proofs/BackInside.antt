@@ -7,6 +7,7 @@ use Rattle.std.proofs.lemmas.Bool.Decides.{nat_tests}
 use Rattle.hex.specs.Hex.{encode_lower}
 use Rattle.agg_terms.specs.Chains as terms
 use Rattle.agg_terms.specs.Values as family
+use Rattle.agg_terms.specs.Lists.{Each}
 use Rattle.agg_terms.specs.Fitting.{fits_bits, fits_plain, fits_value, fits_width}
 use Rattle.tsv_text.specs.Escapes.{plain, pieces_then, pieces_bytes, escaped, escaped_byte, is_escaped, IsUnescaped}
 use Rattle.field_texts.specs.Syntax.{AllFitInQuotes, Token, closed_text}
@@ -17,7 +18,7 @@ use Rattle.scalar_texts.specs.States.{ReadsStates}
 use Rattle.scalar_texts.specs.declared.fault.FieldFault.{FieldFault}
 use Rattle.tsv_values.specs.Elements.{ElementSays, EntrySays, MoreSay, OpenedSay, Quotes, Said, Spaced, all_of, onto, ranged}
 use Rattle.tsv_values.specs.Reading.{behind_quote}
-use Rattle.tsv_values.specs.ReadBack.{HasWidth, StatesReadBack}
+use Rattle.tsv_values.specs.ReadBack.{EachState, HasWidth, IsReadBack}
 use Rattle.tsv_values.specs.Writing.{WritesStates, commas, element_text, entry_text, in_quotes}
 use Rattle.tsv_values.proofs.Closing.{inside-append, pieces_fit}
 use Rattle.tsv_values.proofs.ReadBack.{NumberBack, as_bytes, hex_back, hex_well, signed_back, whole_back}
@@ -67,31 +68,34 @@ token_back b = record { front = []; rest = b ∷ []; first = tt; second = refl; 
 pub spaced_back : {A : Type 0} (says : A → List ℕ → Type 0) (x : A) (text : List ℕ) → says x text → Spaced says x text
 spaced_back says x text h = record { front = []; rest = text; first = tt; second = h; whole = refl }
 
-module _ {X : Type 0} (says : Result X FieldFault → List ℕ → Type 0) (closing : ℕ) (write : X → List ℕ) (fits : X → Bool) (back : (x : X) → fits x ≡ true → says (Ok x) (write x)) where
-  more_back : (xs : List X) → list_all fits xs ≡ true → MoreSay says closing (map Ok xs) (flat_map (λ y. 44 ∷ y) (map write xs) ++ closing ∷ [])
+module _ {X : Type 0} (says : Result X FieldFault → List ℕ → Type 0) (closing : ℕ) (write : X → List ℕ) where
+  more_back : (xs : List X) → Each (λ x. says (Ok x) (write x)) xs → MoreSay says closing (map Ok xs) (flat_map (λ y. 44 ∷ y) (map write xs) ++ closing ∷ [])
   more_back [] h = token_back closing
   more_back (x ∷ xs) h =
-      let p = and_parts (fits x) (list_all fits xs) h in
       let rest = flat_map (λ y. 44 ∷ y) (map write xs) ++ closing ∷ [] in
       record {
         front = 44 ∷ [];
         rest = write x ++ rest;
         first = token_back 44;
-        second = record { front = write x; rest = rest; first = spaced_back says (Ok x) (write x) (back x p.0); second = more_back xs p.1; whole = refl };
+        second = record { front = write x; rest = rest; first = spaced_back says (Ok x) (write x) h.0; second = more_back xs h.1; whole = refl };
         whole = ap (λ t. 44 ∷ t) (append_assoc (write x) (flat_map (λ y. 44 ∷ y) (map write xs)) (closing ∷ []));
       }
 
-  opened_back : (xs : List X) → list_all fits xs ≡ true → OpenedSay says closing (map Ok xs) (commas (map write xs) ++ closing ∷ [])
+  opened_back : (xs : List X) → Each (λ x. says (Ok x) (write x)) xs → OpenedSay says closing (map Ok xs) (commas (map write xs) ++ closing ∷ [])
   opened_back [] h = token_back closing
   opened_back (x ∷ xs) h =
-      let p = and_parts (fits x) (list_all fits xs) h in
       record {
         front = write x;
         rest = flat_map (λ y. 44 ∷ y) (map write xs) ++ closing ∷ [];
-        first = spaced_back says (Ok x) (write x) (back x p.0);
-        second = more_back xs p.1;
+        first = spaced_back says (Ok x) (write x) h.0;
+        second = more_back xs h.1;
         whole = append_assoc (write x) (flat_map (λ y. 44 ∷ y) (map write xs)) (closing ∷ []);
       }
+
+-- what fits and holds of each element gives what is told of each
+each_back : {X : Type 0} (fits : X → Bool) (Holds Told : X → Type 0) → ((x : X) → fits x ≡ true → Holds x → Told x) → (xs : List X) → list_all fits xs ≡ true → Each Holds xs → Each Told xs
+each_back fits Holds Told back [] h each = tt
+each_back fits Holds Told back (x ∷ xs) h each = let p = and_parts (fits x) (list_all fits xs) h in (back x p.0 each.0, each_back fits Holds Told back xs p.1 each.1)
 
 all_ok : {X : Type 0} (xs : List X) → Ok xs ≡ all_of (map Ok xs)
 all_ok [] = refl
@@ -108,34 +112,37 @@ entries_again (family.an_entry k v es) = ap (family.an_entry k v) (entries_again
 number_back : (fits : ℤ → Bool) (z : ℤ) → NumberBack z → fits z ≡ true → (let s : Said = Ok (family.Num z) in s) ≡ ranged fits (number_value (signed_decimal z))
 number_back fits z back h = sym (rw (back.value, h) refl)
 
-module _ (reads : ReadsStates) (writes : WritesStates) (states : StatesReadBack reads writes) (round_trip : (bytes : List ℕ) → IsUnescaped (escaped bytes) (Ok bytes)) where
-  state_back : (t : terms.Ty) (tree : family.Tree) → fits_value t (family.Cell tree) ≡ true → (bytes : List ℕ) × Quotes bytes (in_quotes (encode_lower (writes t tree))) × ((let s : Said = Ok (family.Cell tree) in s) ≡ state_answer reads t bytes)
-  state_back t tree h =
-      let bytes = as_bytes (writes t tree) (states.bytes t tree h) in
+module _ (reads : ReadsStates) (writes : WritesStates) (round_trip : (bytes : List ℕ) → IsUnescaped (escaped bytes) (Ok bytes)) where
+  abbrev States : terms.Ty → family.Value → Type 0
+  States = EachState (IsReadBack reads writes)
+
+  state_back : (t : terms.Ty) (tree : family.Tree) → IsReadBack reads writes t tree → (bytes : List ℕ) × Quotes bytes (in_quotes (encode_lower (writes t tree))) × ((let s : Said = Ok (family.Cell tree) in s) ≡ state_answer reads t bytes)
+  state_back t tree state =
+      let bytes = as_bytes (writes t tree) state.bytes in
       let hex = hex_back (writes t tree) bytes in
       let q = hex_quoted (encode_lower (writes t tree)) hex.1 in
-      (encode_lower (writes t tree), (map plain (encode_lower (writes t tree)), q.0, ap (λ t. 39 ∷ t) q.1, q.2), sym (rw (hex_well (writes t tree) bytes, hex.0, states.same t tree h) refl))
+      (encode_lower (writes t tree), (map plain (encode_lower (writes t tree)), q.0, ap (λ t. 39 ∷ t) q.1, q.2), sym (rw (hex_well (writes t tree) bytes, hex.0, state.same) refl))
 
-  pub element_back : (t : terms.Ty) → HasWidth t → (v : family.Value) → fits_value t v ≡ true → ElementSays reads t (Ok v) (element_text writes t v)
-  element_back (terms.Whole n) w (family.Num z) h = let b = whole_back n z w h in (b.number, number_back (fits_bits n) z b h)
-  element_back (terms.Whole n) w v h = absurd cc
-  element_back (terms.Signed w) le (family.Num z) h = let b = signed_back w z le h in (b.number, number_back (fits_width w) z b h)
-  element_back (terms.Signed w) le v h = absurd cc
-  element_back terms.Str w (family.Bytes bytes) h = (bytes, quoted_back round_trip bytes, refl)
-  element_back terms.Str w v h = absurd cc
-  element_back (terms.StateOf c ts) w (family.Cell tree) h = state_back (terms.StateOf c ts) tree h
-  element_back (terms.StateOf c ts) w v h = absurd cc
-  element_back (terms.Nullable t) w family.Nil h = inr (refl, refl)
-  element_back (terms.Nullable t) w (family.Num z) h = inl (element_back t w (family.Num z) h)
-  element_back (terms.Nullable t) w (family.Bytes b) h = inl (element_back t w (family.Bytes b) h)
-  element_back (terms.Nullable t) w (family.Items vs) h = inl (element_back t w (family.Items vs) h)
-  element_back (terms.Nullable t) w (family.Pairs es) h = inl (element_back t w (family.Pairs es) h)
-  element_back (terms.Nullable t) w (family.Cell tree) h = inl (element_back t w (family.Cell tree) h)
-  element_back (terms.Arr t) w (family.Items vs) h =
+  pub element_back : (t : terms.Ty) → HasWidth t → (v : family.Value) → fits_value t v ≡ true → States t v → ElementSays reads t (Ok v) (element_text writes t v)
+  element_back (terms.Whole n) w (family.Num z) h states = let b = whole_back n z w h in (b.number, number_back (fits_bits n) z b h)
+  element_back (terms.Whole n) w v h states = absurd cc
+  element_back (terms.Signed w) le (family.Num z) h states = let b = signed_back w z le h in (b.number, number_back (fits_width w) z b h)
+  element_back (terms.Signed w) le v h states = absurd cc
+  element_back terms.Str w (family.Bytes bytes) h states = (bytes, quoted_back round_trip bytes, refl)
+  element_back terms.Str w v h states = absurd cc
+  element_back (terms.StateOf c ts) w (family.Cell tree) h states = state_back (terms.StateOf c ts) tree states
+  element_back (terms.StateOf c ts) w v h states = absurd cc
+  element_back (terms.Nullable t) w family.Nil h states = inr (refl, refl)
+  element_back (terms.Nullable t) w (family.Num z) h states = inl (element_back t w (family.Num z) h states)
+  element_back (terms.Nullable t) w (family.Bytes b) h states = inl (element_back t w (family.Bytes b) h states)
+  element_back (terms.Nullable t) w (family.Items vs) h states = inl (element_back t w (family.Items vs) h states)
+  element_back (terms.Nullable t) w (family.Pairs es) h states = inl (element_back t w (family.Pairs es) h states)
+  element_back (terms.Nullable t) w (family.Cell tree) h states = inl (element_back t w (family.Cell tree) h states)
+  element_back (terms.Arr t) w (family.Items vs) h states =
       let xs = family.values_list vs in
-      (refl, (Ok xs, (map Ok xs, opened_back (ElementSays reads t) 93 (element_text writes t) (fits_value t) (element_back t w) xs h, all_ok xs), ap (λ us. Ok (family.Items us)) (sym (values_again vs))))
-  element_back (terms.Arr t) w v h = absurd cc
-  element_back (terms.MapTy k t) w (family.Pairs es) h =
+      (refl, (Ok xs, (map Ok xs, opened_back (ElementSays reads t) 93 (element_text writes t) xs (each_back (fits_value t) (States t) (λ v. ElementSays reads t (Ok v) (element_text writes t v)) (element_back t w) xs h states), all_ok xs), ap (λ us. Ok (family.Items us)) (sym (values_again vs))))
+  element_back (terms.Arr t) w v h states = absurd cc
+  element_back (terms.MapTy k t) w (family.Pairs es) h states =
       let xs = family.entries_list es in
       let key = element_back k w.0 in
       let item = element_back t w.1 in
@@ -145,23 +152,24 @@ module _ (reads : ReadsStates) (writes : WritesStates) (states : StatesReadBack 
           Ok xs,
           (
             map Ok xs,
-            opened_back (EntrySays (ElementSays reads k) (ElementSays reads t)) 125 (entry_text (element_text writes k) (element_text writes t)) fits
-                (λ e both.
+            opened_back (EntrySays (ElementSays reads k) (ElementSays reads t)) 125 (entry_text (element_text writes k) (element_text writes t)) xs
+                (each_back fits (λ e. States k e.0 × States t e.1) (λ e. EntrySays (ElementSays reads k) (ElementSays reads t) (Ok e) (entry_text (element_text writes k) (element_text writes t) e))
+                (λ e both of.
                 let b = and_parts (fits_plain k e.0) (fits_value t e.1) both in (
                   Ok e.0,
                   Ok e.1,
                   record {
                     front = element_text writes k e.0;
                     rest = 58 ∷ element_text writes t e.1;
-                    first = key e.0 (plain_is_value k e.0 b.0);
-                    second = record { front = 58 ∷ []; rest = element_text writes t e.1; first = token_back 58; second = spaced_back (ElementSays reads t) (Ok e.1) (element_text writes t e.1) (item e.1 b.1); whole = refl };
+                    first = key e.0 (plain_is_value k e.0 b.0) of.0;
+                    second = record { front = 58 ∷ []; rest = element_text writes t e.1; first = token_back 58; second = spaced_back (ElementSays reads t) (Ok e.1) (element_text writes t e.1) (item e.1 b.1 of.1); whole = refl };
                     whole = refl;
                   },
                   refl,
-                )) xs h,
+                )) xs h states),
             all_ok xs,
           ),
           ap (λ us. Ok (family.Pairs us)) (sym (entries_again es)),
         ),
       )
-  element_back (terms.MapTy k t) w v h = absurd cc
+  element_back (terms.MapTy k t) w v h states = absurd cc

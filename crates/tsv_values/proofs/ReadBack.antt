@@ -23,7 +23,7 @@ use Rattle.field_texts.specs.Syntax.{AreDigits, IsDigits, IsNumber}
 use Rattle.scalar_texts.specs.Answer.{Agrees, IsScalar, IsScalarAnswer, IsNumericAnswer, is_null, state_answer}
 use Rattle.scalar_texts.specs.Hex.{hex_bytes, hex_fault, is_lower_hex, is_not_lower_hex, odd_at}
 use Rattle.scalar_texts.specs.Numbers.{number_value, split_sign}
-use Rattle.tsv_values.specs.ReadBack.{HasWidth, StatesReadBack}
+use Rattle.tsv_values.specs.ReadBack.{EachState, HasWidth, IsReadBack}
 use Rattle.scalar_texts.specs.States.{ReadsStates}
 use Rattle.tsv_values.specs.Writing.{WritesStates, field_text}
 use Rattle.scalar_texts.proofs.Digits.{some_digits}
@@ -176,26 +176,26 @@ pub signed_back : (w : Width) (z : ℤ) → 2 ^ hbits w ≤ 2 ^ 63 → fits_widt
 signed_back w (pos k) le h = let s : k < 2 ^ hbits w = ((fitting.width w (pos k)).0 h).sfits in positive_back k (omega (arith, s, le))
 signed_back w (negsuc k) le h = let s : k < 2 ^ hbits w = ((fitting.width w (negsuc k)).0 h).sfits in negative_back k (omega (arith, s, le))
 
-module _ (reads : ReadsStates) (writes : WritesStates) (states : StatesReadBack reads writes) (round_trip : (bytes : List ℕ) → IsUnescaped (escaped bytes) (Ok bytes)) (value : Value) where
+module _ (reads : ReadsStates) (writes : WritesStates) (round_trip : (bytes : List ℕ) → IsUnescaped (escaped bytes) (Ok bytes)) (value : Value) where
   abbrev Back : terms.Ty → family.Value → Type 0
   Back t v = (is_null (field_text writes t v) ≡ false) × IsScalarAnswer reads t (field_text writes t v) (Ok value)
 
-  cell_back : (t : terms.Ty) (tree : family.Tree) → fits_value t (family.Cell tree) ≡ true → value_of value ≡ family.Cell tree
+  cell_back : (t : terms.Ty) (tree : family.Tree) → IsReadBack reads writes t tree → value_of value ≡ family.Cell tree
       → (is_null (encode_lower (writes t tree)) ≡ false) × Agrees (state_answer reads t (encode_lower (writes t tree))) (Ok value)
-  cell_back t tree h e =
-      let bytes = as_bytes (writes t tree) (states.bytes t tree h) in
-      (hex_filled (writes t tree) bytes, rw (hex_well (writes t tree) bytes, (hex_back (writes t tree) bytes).0, states.same t tree h) (ap Ok (sym e)))
+  cell_back t tree state e =
+      let bytes = as_bytes (writes t tree) state.bytes in
+      (hex_filled (writes t tree) bytes, rw (hex_well (writes t tree) bytes, (hex_back (writes t tree) bytes).0, state.same) (ap Ok (sym e)))
 
-  pub back : (t : terms.Ty) → IsScalar t → HasWidth t → (v : family.Value) → is_nil v ≡ false → value_of value ≡ v → fits_value t v ≡ true → Back t v
-  back (terms.Whole n) s w (family.Num z) filled e h = numeric (fits_bits n) z value (whole_back n z w h) h e
-  back (terms.Whole n) s w v filled e h = absurd cc
-  back (terms.Signed w) s le (family.Num z) filled e h = numeric (fits_width w) z value (signed_back w z le h) h e
-  back (terms.Signed w) s le v filled e h = absurd cc
-  back terms.Str s w (family.Bytes bytes) filled e h = (string_filled bytes, (bytes, e, round_trip bytes))
-  back terms.Str s w v filled e h = absurd cc
-  back (terms.StateOf c ts) s w (family.Cell tree) filled e h = cell_back (terms.StateOf c ts) tree h e
-  back (terms.StateOf c ts) s w v filled e h = absurd cc
-  back (terms.Nullable t) s w family.Nil filled e h = absurd cc
-  back (terms.Nullable t) s w v filled e h = back t s w v filled e h
-  back (terms.Arr t) s w v filled e h = absurd s
-  back (terms.MapTy k t) s w v filled e h = absurd s
+  pub back : (t : terms.Ty) → IsScalar t → HasWidth t → (v : family.Value) → is_nil v ≡ false → value_of value ≡ v → fits_value t v ≡ true → EachState (IsReadBack reads writes) t v → Back t v
+  back (terms.Whole n) s w (family.Num z) filled e h states = numeric (fits_bits n) z value (whole_back n z w h) h e
+  back (terms.Whole n) s w v filled e h states = absurd cc
+  back (terms.Signed w) s le (family.Num z) filled e h states = numeric (fits_width w) z value (signed_back w z le h) h e
+  back (terms.Signed w) s le v filled e h states = absurd cc
+  back terms.Str s w (family.Bytes bytes) filled e h states = (string_filled bytes, (bytes, e, round_trip bytes))
+  back terms.Str s w v filled e h states = absurd cc
+  back (terms.StateOf c ts) s w (family.Cell tree) filled e h states = cell_back (terms.StateOf c ts) tree states e
+  back (terms.StateOf c ts) s w v filled e h states = absurd cc
+  back (terms.Nullable t) s w family.Nil filled e h states = absurd cc
+  back (terms.Nullable t) s w v filled e h states = back t s w v filled e h states
+  back (terms.Arr t) s w v filled e h states = absurd s
+  back (terms.MapTy k t) s w v filled e h states = absurd s

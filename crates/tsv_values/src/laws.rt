@@ -1,11 +1,13 @@
 //! What is written is read back.
-ghost use Rattle.tsv_values.specs.ReadBack.{ValuesReadBack};
+ghost use Rattle.tsv_values.specs.ReadBack.{ValuesReadBack, ValuesWithoutStatesReadBack};
 
 use tsv_text::law_round_trip;
 
-/// Where states are read back, each value that fits its type is: the field that it is written as says it.
+/// Each value that fits its type is read back where the states in it are: the field that it is written as says it. In a type without states
+/// that is each value.
 pub fn law_values_read_back()
-    ensures { ValuesReadBack }
+    ensures values { ValuesReadBack }
+    ensures without_states { ValuesWithoutStatesReadBack }
 {
     law_round_trip();
 }

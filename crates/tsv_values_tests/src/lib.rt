@@ -6,6 +6,7 @@
 mod faults;
 #[cfg(test)]
 mod long_fields;
+mod number_lists;
 #[cfg(test)]
 mod one_byte;
 #[cfg(test)]
@@ -16,3 +17,5 @@ mod tables;
 mod values;
 #[cfg(test)]
 mod writing;
+
+pub use number_lists::number_lists_are_read_back;
