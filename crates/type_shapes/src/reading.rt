@@ -212,8 +212,8 @@ fn read_types(
     Ok(Some((types, after)))
 }
 
-/// The shape of the type that stands at the front of a text, and what stands behind it; `None` where types stand in one
-/// another more than sixteen deep.
+/// The shape of the type at the front of a text that begins with one, and what stands behind it; `None` where types stand
+/// in one another more than sixteen deep. Of a text that begins with no type nothing is said: judge it first.
 pub fn read_front(alloc: Global, text: &[u8]) -> Result<Option<(TypeShape, &[u8])>, OutOfMemory>
     ensures { IfOk result (λ found. ReadsType 16 text.now (option_map (λ f. (shape_of f.0, f.1.now)) found)) }
 {
