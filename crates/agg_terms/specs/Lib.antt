@@ -3,6 +3,7 @@ pub mod Chains
 pub mod Lists
 pub mod Order
 pub mod Types
+pub mod Widths
 pub mod Trees
 pub mod Fitting
 pub mod Laws

@@ -10,3 +10,4 @@ pub mod States
 pub mod Typing
 pub mod Legal
 pub mod Promises
+pub mod Views

@@ -9,7 +9,8 @@ use Rattle.agg_meaning.specs.Functions.{arg}
 use Rattle.agg_meaning.specs.Laws.{AreFeeds}
 use Rattle.agg_meaning.specs.Views.{AreContributions, Call, View, call_at, items_at, of_row}
 use Rattle.agg_meaning.proofs.LeafTrees.{each_map}
-use Rattle.row_laws.specs.RowLaws.{IsCallOver, IsNarrow}
+use Rattle.agg_terms.specs.Widths.{IsNarrow}
+use Rattle.agg_typing.specs.Views.{IsCallOver}
 use Rattle.row_laws.proofs.Rows.{row}
 
 value_at : (types : List Ty) (r : List Value) → AreValues types r → (i : ℕ) → i < length types → IsValue (get_or types i Str) (arg i r)

@@ -11,7 +11,7 @@ use Rattle.agg_meaning.proofs.LeafTrees.{each_map}
 use Rattle.agg_typing.specs.Faults.{ArgType}
 use Rattle.agg_typing.specs.Kinds.{Arg, is_array, is_map, last_is}
 use Rattle.agg_typing.proofs.Tests.{cond_none, types}
-use Rattle.row_laws.specs.RowLaws.{IsNarrow}
+use Rattle.agg_terms.specs.Widths.{IsNarrow}
 
 -- what holds of the last argument of a kind
 pub last_value : (kind : Ty → Bool) (P : Value → Type 0) →

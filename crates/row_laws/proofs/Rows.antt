@@ -16,7 +16,7 @@ use Rattle.agg_typing.proofs.Same.{both, chain_exact}
 use Rattle.agg_typing.proofs.Tests.{each, one, or_none, types}
 use Rattle.agg_typing.proofs.Reaching.{is_state, types-numbered}
 use Rattle.agg_typing.proofs.Inward.{Passes, inner_is_legal, legal_passes}
-use Rattle.row_laws.specs.RowLaws.{IsNarrow}
+use Rattle.agg_terms.specs.Widths.{IsNarrow}
 use Rattle.row_laws.proofs.Parts.{IsArray, element_narrow, entries_are, front_narrow, front_values, last_value, part_narrow, tuples_are}
 use Rattle.row_laws.proofs.Widened.{HasKey, IsMet, all_wider, condition_met, first_wider, number_key}
 

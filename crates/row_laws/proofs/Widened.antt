@@ -11,7 +11,7 @@ use Rattle.agg_terms.specs.Trees.{IsValue}
 use Rattle.agg_terms.specs.Values.{Value}
 use Rattle.agg_meaning.specs.Feeds.{AreValues, IfHere, IsKey, as_condition, as_key, widened, widened_first}
 use Rattle.agg_typing.specs.Kinds.{is_condition, is_number}
-use Rattle.row_laws.specs.RowLaws.{IsNarrow}
+use Rattle.agg_terms.specs.Widths.{IsNarrow}
 
 half : (w : Width) → IsNarrow (Signed w) → hbits w ≤ 63
 half w8 n = omega arith

@@ -1,4 +1,5 @@
 pub mod ChainsBack
 pub mod FoldLaws
+pub mod Images
 pub mod TypesBack
 pub mod ValuesBack

@@ -23,7 +23,7 @@ mod words;
 
 pub use agg_terms::{LeafName, Suffix};
 pub use chain::Chain;
-pub use laws::law_folds;
+pub use laws::{law_folds, law_types};
 pub use leaf::Leaf;
 pub use literal::Literal;
 pub use pattern::{Op, PatItem, PatLink, Pattern};
