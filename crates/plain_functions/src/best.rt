@@ -1,11 +1,14 @@
 //! The row with the least or the greatest argument.
-ghost use Rattle.std.specs.Prelude.{◌≡◌, None, Some, MatchOption};
+ghost use Rattle.std.specs.Prelude.{◌≡◌, IfOk, None, Some, MatchOption};
 ghost use Rattle.agg_terms.specs.Order as terms;
+ghost use Rattle.agg_meaning.specs.Functions as functions;
+ghost use Rattle.value_types.specs.Folds.{value_of};
 ghost use Rattle.plain_rows.specs.Rows.{row_of, rows_of};
 ghost use Rattle.plain_functions.specs.Best.{beats_at};
 
-use agg_values::{Seq, Value, compare};
+use agg_values::{OutOfMemory, Seq, Value, compare};
 use plain_rows::arg;
+use std::alloc::Global;
 
 /// Whether the argument at a place of one row is above that of another, or below it.
 fn beats(greatest: bool, place: usize, row: &[Value], other: &[Value]) -> bool
@@ -37,4 +40,20 @@ pub fn best_row<'a>(greatest: bool, place: usize, rows: &'a [Seq<Value>]) -> Opt
             }
         },
     }
+}
+
+/// A copy of a row's first argument.
+pub fn first_arg(alloc: Global, row: &[Value]) -> Result<Value, OutOfMemory>
+    ensures { IfOk result (λ value. value_of value ≡ functions.arg 0 (row_of row.now)) }
+{
+    let nil = Value::Nil;
+    arg(row, 0, &nil).copy(alloc)
+}
+
+/// A copy of a row's second argument.
+pub fn second_arg(alloc: Global, row: &[Value]) -> Result<Value, OutOfMemory>
+    ensures { IfOk result (λ value. value_of value ≡ functions.arg 1 (row_of row.now)) }
+{
+    let nil = Value::Nil;
+    arg(row, 1, &nil).copy(alloc)
 }

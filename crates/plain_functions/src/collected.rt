@@ -67,12 +67,12 @@ pub fn quantile(
     alloc: Global,
     level: u32,
     rows: &[Seq<Value>],
-    nothing: Value,
+    nothing: &Value,
 ) -> Result<Value, OutOfMemory>
-    ensures { IfOk result (λ value. value_of value ≡ cond (lists.is_empty (rows_of rows.now)) (value_of nothing) (terms.arg (terms.quantile_place level (length (rows_of rows.now))) (order.ascending order.compare (map terms.the_arg (rows_of rows.now))))) }
+    ensures { IfOk result (λ value. value_of value ≡ cond (lists.is_empty (rows_of rows.now)) (value_of nothing.now) (terms.arg (terms.quantile_place level (length (rows_of rows.now))) (order.ascending order.compare (map terms.the_arg (rows_of rows.now))))) }
 {
     if rows.is_empty() {
-        return Ok(nothing);
+        return nothing.copy(alloc);
     }
     let sorted = ascending_args(alloc, rows)?;
     value_at(alloc, sorted.as_slice(), quantile_place(level, rows.len()))

@@ -15,27 +15,39 @@ ghost use Rattle.plain_rows.specs.Rows.{rows_of};
 ghost use Rattle.plain_functions.specs.Best.{beats_at, first_of};
 ghost use Rattle.plain_rows.specs.Served.{IsServed};
 
-use crate::best::best_row;
+use crate::best::{best_row, first_arg};
 use crate::collected::{kept, quantile};
 use crate::eventful::{funnel, matched, retention};
 use crate::sorted::different_rows;
 use agg_values::{Leaf, OutOfMemory, Seq, Ty, Value};
 use plain_rows::{
-    Operation, any_nullable, arg, bits_of_none, first_type, folded, from_bits, is_live, live_rows,
+    Operation, any_nullable, bits_of_none, first_type, folded, from_bits, is_live, live_rows,
     nothing_of, total,
 };
 use std::alloc::Global;
 
+/// The sum of the first arguments.
+pub fn sum_in(types: &[Ty], rows: &[Seq<Value>]) -> i128
+    ensures { result ≡ terms.total (map ty_of types.now) (rows_of rows.now) }
+{
+    let text = Ty::Str;
+    total(first_type(types, &text), rows)
+}
+
 /// The sum, where there are rows.
 #[tactic(auto, using(crate::proofs::Places::empty_rows))]
-fn sum_of(types: &[Ty], rows: &[Seq<Value>], nothing: Value) -> Value
-    ensures { value_of result ≡ cond (lists.is_empty (rows_of rows.now)) (value_of nothing) (Num (terms.total (map ty_of types.now) (rows_of rows.now))) }
+fn sum_of(
+    alloc: Global,
+    types: &[Ty],
+    rows: &[Seq<Value>],
+    nothing: &Value,
+) -> Result<Value, OutOfMemory>
+    ensures { IfOk result (λ value. value_of value ≡ cond (lists.is_empty (rows_of rows.now)) (value_of nothing.now) (Num (terms.total (map ty_of types.now) (rows_of rows.now)))) }
 {
     if rows.is_empty() {
-        return nothing;
+        return nothing.copy(alloc);
     }
-    let text = Ty::Str;
-    Value::Num(total(first_type(types, &text), rows))
+    Ok(Value::Num(sum_in(types, rows)))
 }
 
 /// The first argument of the best row, where there are rows.
@@ -44,32 +56,39 @@ fn best_arg(
     greatest: bool,
     place: usize,
     rows: &[Seq<Value>],
-    nothing: Value,
+    nothing: &Value,
 ) -> Result<Value, OutOfMemory>
-    ensures { IfOk result (λ value. value_of value ≡ first_of (value_of nothing) (order.best (beats_at greatest place) (rows_of rows.now))) }
+    ensures { IfOk result (λ value. value_of value ≡ first_of (value_of nothing.now) (order.best (beats_at greatest place) (rows_of rows.now))) }
 {
-    let nil = Value::Nil;
     match best_row(greatest, place, rows) {
-        None => Ok(nothing),
-        Some(row) => arg(row.as_slice(), 0, &nil).copy(alloc),
+        None => nothing.copy(alloc),
+        Some(row) => first_arg(alloc, row.as_slice()),
     }
 }
 
+/// The bits of no rows, as the number of a type.
+fn bits_for_none(operation: Operation, first: &Ty) -> Value
+    ensures { let ty = ty_of first.now in value_of result ≡ Num (terms.from_bits_in ty (terms.bits_of_none (op_of operation) (terms.bits_in ty))) }
+{
+    Value::Num(from_bits(first, bits_of_none(operation, first)))
+}
+
 /// The number of the rows' bits combined.
-fn bits_of(operation: Operation, types: &[Ty], rows: &[Seq<Value>], nothing: Value) -> Value
-    ensures { let first = types_in.first_type (map ty_of types.now) in value_of result ≡ terms.bit_value first (cond (types_in.any_null (map ty_of types.now)) (value_of nothing) (Num (terms.from_bits_in first (terms.bits_of_none (op_of operation) (terms.bits_in first))))) (terms.folded (terms.bit_op (op_of operation)) (terms.bits_of_rows first (rows_of rows.now))) }
+fn bits_of(
+    alloc: Global,
+    operation: Operation,
+    types: &[Ty],
+    rows: &[Seq<Value>],
+    nothing: &Value,
+) -> Result<Value, OutOfMemory>
+    ensures { let first = types_in.first_type (map ty_of types.now) in IfOk result (λ value. value_of value ≡ terms.bit_value first (cond (types_in.any_null (map ty_of types.now)) (value_of nothing.now) (Num (terms.from_bits_in first (terms.bits_of_none (op_of operation) (terms.bits_in first))))) (terms.folded (terms.bit_op (op_of operation)) (terms.bits_of_rows first (rows_of rows.now)))) }
 {
     let text = Ty::Str;
     let first = first_type(types, &text);
     match folded(operation, first, rows) {
-        Some(bits) => Value::Num(from_bits(first, bits)),
-        None => {
-            if any_nullable(types) {
-                nothing
-            } else {
-                Value::Num(from_bits(first, bits_of_none(operation, first)))
-            }
-        }
+        Some(bits) => Ok(Value::Num(from_bits(first, bits))),
+        None if any_nullable(types) => nothing.copy(alloc),
+        None => Ok(bits_for_none(operation, first)),
     }
 }
 
@@ -82,8 +101,38 @@ fn different_count(alloc: Global, rows: &[Seq<Value>]) -> Result<usize, OutOfMem
     Ok(set.len())
 }
 
-/// What a function means over rows that count.
+/// What a function means over rows that count, with what it means over none.
 #[tactic(auto, using(crate::proofs::Bests::best_laws, crate::proofs::Places::empty_rows))]
+fn meaning_or(
+    alloc: Global,
+    leaf: &Leaf,
+    types: &[Ty],
+    rows: &[Seq<Value>],
+    nothing: &Value,
+) -> Result<Value, OutOfMemory>
+    requires { IsServed (leaf_of leaf.now) (map ty_of types.now) (rows_of rows.now) }
+    ensures { IfOk result (λ value. value_of value ≡ terms.leaf_meaning (leaf_of leaf.now) (map ty_of types.now) (value_of nothing.now) (rows_of rows.now)) }
+{
+    match leaf {
+        Leaf::Count => Ok(Value::Num(rows.len() as i128)),
+        Leaf::Sum => sum_of(alloc, types, rows, nothing),
+        Leaf::Min => best_arg(alloc, false, 0, rows, nothing),
+        Leaf::Max => best_arg(alloc, true, 0, rows, nothing),
+        Leaf::ArgMin => best_arg(alloc, false, 1, rows, nothing),
+        Leaf::ArgMax => best_arg(alloc, true, 1, rows, nothing),
+        Leaf::BitAnd => bits_of(alloc, Operation::And, types, rows, nothing),
+        Leaf::BitOr => bits_of(alloc, Operation::Or, types, rows, nothing),
+        Leaf::BitXor => bits_of(alloc, Operation::Xor, types, rows, nothing),
+        Leaf::GroupArray(most) => Ok(Value::List(kept(alloc, most, rows)?)),
+        Leaf::UniqExact => Ok(Value::Num(different_count(alloc, rows)? as i128)),
+        Leaf::QuantileExact(level) => quantile(alloc, *level, rows, nothing),
+        Leaf::WindowFunnel(window, strict) => funnel(alloc, *window, *strict, types, rows),
+        Leaf::SequenceMatch(pattern) => matched(alloc, pattern, types, rows),
+        Leaf::Retention => retention(alloc, types.len(), rows),
+    }
+}
+
+/// What a function means over rows that count.
 fn live_meaning(
     alloc: Global,
     leaf: &Leaf,
@@ -94,23 +143,7 @@ fn live_meaning(
     ensures { IfOk result (λ value. value_of value ≡ terms.leaf_meaning (leaf_of leaf.now) (map ty_of types.now) (results.default (results.leaf_result (leaf_of leaf.now) (map ty_of types.now))) (rows_of rows.now)) }
 {
     let nothing = nothing_of(alloc, leaf, types)?;
-    match leaf {
-        Leaf::Count => Ok(Value::Num(rows.len() as i128)),
-        Leaf::Sum => Ok(sum_of(types, rows, nothing)),
-        Leaf::Min => best_arg(alloc, false, 0, rows, nothing),
-        Leaf::Max => best_arg(alloc, true, 0, rows, nothing),
-        Leaf::ArgMin => best_arg(alloc, false, 1, rows, nothing),
-        Leaf::ArgMax => best_arg(alloc, true, 1, rows, nothing),
-        Leaf::BitAnd => Ok(bits_of(Operation::And, types, rows, nothing)),
-        Leaf::BitOr => Ok(bits_of(Operation::Or, types, rows, nothing)),
-        Leaf::BitXor => Ok(bits_of(Operation::Xor, types, rows, nothing)),
-        Leaf::GroupArray(most) => Ok(Value::List(kept(alloc, most, rows)?)),
-        Leaf::UniqExact => Ok(Value::Num(different_count(alloc, rows)? as i128)),
-        Leaf::QuantileExact(level) => quantile(alloc, *level, rows, nothing),
-        Leaf::WindowFunnel(window, strict) => funnel(alloc, *window, *strict, types, rows),
-        Leaf::SequenceMatch(pattern) => matched(alloc, pattern, types, rows),
-        Leaf::Retention => retention(alloc, types.len(), rows),
-    }
+    meaning_or(alloc, leaf, types, rows, &nothing)
 }
 
 /// What a function means over the rows of its arguments; a row with a NULL argument doesn't count.

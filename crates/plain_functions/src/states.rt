@@ -15,14 +15,13 @@ ghost use Rattle.plain_rows.specs.Rows.{rows_of};
 ghost use Rattle.plain_functions.specs.Best.{beats_at, one_of, pair_of};
 ghost use Rattle.plain_rows.specs.Served.{AreEvents, IsServed};
 
-use crate::best::best_row;
+use crate::best::{best_row, first_arg, second_arg};
 use crate::collected::{ascending_args, kept};
 use crate::eventful::typed_events;
+use crate::meanings::sum_in;
 use crate::sorted::different_rows;
 use agg_values::{Leaf, OutOfMemory, Seq, Tree, Ty, Value};
-use plain_rows::{
-    Operation, arg, first_type, folded, from_bits, live_rows, mask_of, met_set, total,
-};
+use plain_rows::{Operation, first_type, folded, from_bits, live_rows, mask_of, met_set};
 use std::alloc::Global;
 
 /// A number, where there are rows.
@@ -34,6 +33,14 @@ fn word_unless_none(rows: &[Seq<Value>], word: i128) -> Tree
         [] => Tree::Empty,
         [_, ..] => Tree::Word(word),
     }
+}
+
+/// The state of sum.
+#[tactic(auto, using(crate::proofs::Places::empty_rows))]
+fn sum_tree(types: &[Ty], rows: &[Seq<Value>]) -> Tree
+    ensures { tree_of result ≡ terms.unless_none (rows_of rows.now) (Word (terms.total (map ty_of types.now) (rows_of rows.now))) }
+{
+    word_unless_none(rows, sum_in(types, rows))
 }
 
 /// The tree of one value: a number is a word, another value a tuple of it.
@@ -55,11 +62,20 @@ fn tree_of_one(alloc: Global, value: Value) -> Result<Tree, OutOfMemory>
 fn best_tree(alloc: Global, greatest: bool, rows: &[Seq<Value>]) -> Result<Tree, OutOfMemory>
     ensures { IfOk result (λ tree. tree_of tree ≡ one_of (order.best (beats_at greatest 0) (rows_of rows.now))) }
 {
-    let nil = Value::Nil;
     match best_row(greatest, 0, rows) {
         None => Ok(Tree::Empty),
-        Some(row) => tree_of_one(alloc, arg(row.as_slice(), 0, &nil).copy(alloc)?),
+        Some(row) => tree_of_one(alloc, first_arg(alloc, row.as_slice())?),
     }
+}
+
+/// The tree of two values.
+fn tree_of_pair(alloc: Global, first: Value, second: Value) -> Result<Tree, OutOfMemory>
+    ensures { IfOk result (λ tree. tree_of tree ≡ trees.pair_tree (Some (value_of first, value_of second))) }
+{
+    let mut pair = Seq::new(alloc);
+    pair.push(first)?;
+    pair.push(second)?;
+    Ok(Tree::Tuple(pair))
 }
 
 /// The state of argMin and argMax.
@@ -67,14 +83,11 @@ fn best_tree(alloc: Global, greatest: bool, rows: &[Seq<Value>]) -> Result<Tree,
 fn best_pair(alloc: Global, greatest: bool, rows: &[Seq<Value>]) -> Result<Tree, OutOfMemory>
     ensures { IfOk result (λ tree. tree_of tree ≡ pair_of (order.best (beats_at greatest 1) (rows_of rows.now))) }
 {
-    let nil = Value::Nil;
     match best_row(greatest, 1, rows) {
         None => Ok(Tree::Empty),
         Some(row) => {
-            let mut pair = Seq::new(alloc);
-            pair.push(arg(row.as_slice(), 0, &nil).copy(alloc)?)?;
-            pair.push(arg(row.as_slice(), 1, &nil).copy(alloc)?)?;
-            Ok(Tree::Tuple(pair))
+            let first = first_arg(alloc, row.as_slice())?;
+            tree_of_pair(alloc, first, second_arg(alloc, row.as_slice())?)
         }
     }
 }
@@ -123,10 +136,9 @@ fn live_state(
     requires { IsServed (leaf_of leaf.now) (map ty_of types.now) (rows_of rows.now) }
     ensures { IfOk result (λ tree. tree_of tree ≡ terms.leaf_normal (leaf_of leaf.now) (map ty_of types.now) (rows_of rows.now)) }
 {
-    let text = Ty::Str;
     match leaf {
         Leaf::Count => Ok(word_unless_none(rows, rows.len() as i128)),
-        Leaf::Sum => Ok(word_unless_none(rows, total(first_type(types, &text), rows))),
+        Leaf::Sum => Ok(sum_tree(types, rows)),
         Leaf::Min => best_tree(alloc, false, rows),
         Leaf::Max => best_tree(alloc, true, rows),
         Leaf::ArgMin => best_pair(alloc, false, rows),
