@@ -1,3 +1,3 @@
 pub mod Parts
 pub mod Plans
-pub mod Reached
+pub mod proving

@@ -14,7 +14,7 @@ use Rattle.value_types.specs.declared.value.Value.TheVariants as value
 use Rattle.value_types.proofs.FoldLaws.{value_of-Bytes}
 use Rattle.value_types.specs.Words.{is_null}
 use Rattle.key_methods.specs.Figures.{worth}
-use Rattle.key_methods.specs.Fronts.{flag_front, number_at, number_front, text_front, value_front, values_front}
+use Rattle.key_methods.specs.proving.Fronts.{flag_front, number_at, number_front, text_front, value_front, values_front}
 use Rattle.key_methods.specs.KeyBytes.{AreShort, IsShort, flagged, text_bytes, value_bytes, values_bytes}
 use Rattle.key_methods.proofs.Columns.{IsColumn}
 use Rattle.key_methods.proofs.Figures.{length-bytes, power_bits, width_bits, worth-bytes}

@@ -17,7 +17,7 @@ use Rattle.value_types.specs.declared.ty.Ty.{Ty}
 use Rattle.key_methods.specs.declared.kind.KeyKind.{KeyKind}
 use Rattle.key_methods.specs.declared.kind.KeyKind.TheVariants.{NoKey, Key8, Key16, Key32, Key64, KeyString, Packed128, Serialized}
 use Rattle.key_methods.specs.declared.key.Key.{Key}
-use Rattle.key_methods.specs.Fronts.{values_by, values_front}
+use Rattle.key_methods.specs.proving.Fronts.{values_by, values_front}
 use Rattle.key_methods.specs.KeyBytes.{AreShort, bytes_by, flagged, only_text, text_bytes, text_of, value_bytes, values_bytes, word_of}
 use Rattle.key_methods.specs.Keys.{IsKey, bytes_of, key_of, key_with}
 use Rattle.key_methods.specs.Kinds.{AreKeyTypes, fit_in, is_plain_number, kind_of, number_kind, total_width, width_of}

@@ -3,7 +3,7 @@ ghost use Rattle.std.specs.Prelude.{◌≡◌, ◌≤◌, ◌<◌, ◌*◌, ◌+
 ghost use Rattle.agg_terms.specs.Trees.{IsValue};
 ghost use Rattle.agg_terms.specs.Values.{Num};
 ghost use Rattle.key_methods.specs.Figures as figures;
-ghost use Rattle.key_methods.specs.Fronts.{number_at};
+ghost use Rattle.key_methods.specs.proving.Fronts.{number_at};
 ghost use Rattle.key_methods.specs.KeyBytes as spec;
 ghost use Rattle.key_methods.specs.Kinds.{is_plain_number, width_of};
 ghost use Rattle.value_types.specs.Folds.{ty_of, value_of};

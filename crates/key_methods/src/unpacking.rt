@@ -3,7 +3,7 @@ ghost use Rattle.std.specs.Prelude.{◌≡◌, ◌∷◌, [], List, map, true, I
 ghost use Rattle.agg_terms.specs.Chains as terms;
 ghost use Rattle.agg_terms.specs.Values as family;
 ghost use Rattle.agg_typing.specs.Kinds.{is_number_or_text};
-ghost use Rattle.key_methods.specs.Fronts as spec;
+ghost use Rattle.key_methods.specs.proving.Fronts as spec;
 ghost use Rattle.key_methods.specs.Keys.{IsKey, bytes_of};
 ghost use Rattle.key_methods.specs.Kinds.{AreKeyTypes, is_plain_number, kind_of};
 ghost use Rattle.key_methods.specs.Tuples.{IsKeyOf, Undoes};

@@ -4,7 +4,7 @@ ghost use Rattle.agg_terms.specs.Order as terms;
 ghost use Rattle.agg_meaning.specs.Functions as functions;
 ghost use Rattle.value_types.specs.Folds.{value_of};
 ghost use Rattle.plain_rows.specs.Rows.{row_of, rows_of};
-ghost use Rattle.plain_functions.specs.Best.{beats_at};
+ghost use Rattle.plain_functions.specs.proving.Best.{beats_at};
 
 use agg_values::{OutOfMemory, Seq, Value, compare};
 use plain_rows::arg;

@@ -1,3 +1,3 @@
 pub mod Reading
 pub mod Laws
-pub mod Gives
+pub mod proving

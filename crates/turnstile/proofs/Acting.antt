@@ -8,8 +8,8 @@ use Rattle.atomic_table.proofs.Lists.{set_here}
 use Rattle.history_core.specs.declared.entry.Entry.{Entry}
 use Rattle.turnstile.specs.declared.view.View.{View}
 use Rattle.turnstile.specs.declared.view.Stage.TheVariants.{Idle, Waits, InTurn, Acted}
-use Rattle.turnstile.specs.Rules.{total, quota_of, ticket_of, Stands, Turning}
-use Rattle.turnstile.specs.Steps.{Commits, Looks, PassesOn, ticket_or, found_or}
+use Rattle.turnstile.specs.proving.Rules.{total, quota_of, ticket_of, Stands, Turning}
+use Rattle.turnstile.specs.proving.Steps.{Commits, Looks, PassesOn, ticket_or, found_or}
 use Rattle.turnstile.proofs.People.{people_move, people_look, people_commit}
 use Rattle.turnstile.proofs.Lists.{total_set, set_at, each_set}
 use Rattle.turnstile.proofs.Stands.{wraps, some_of, one_hand, in_turn_live, acted_live, idle_live, held_same, held_pass, its_own, stands_on, stands_after}

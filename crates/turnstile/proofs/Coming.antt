@@ -11,8 +11,8 @@ use Rattle.atomic_table.proofs.Lists.{set_again}
 use Rattle.history_core.specs.declared.entry.Entry.{Entry}
 use Rattle.turnstile.specs.declared.view.View.{View}
 use Rattle.turnstile.specs.declared.view.Stage.TheVariants.{Idle, Waits, InTurn}
-use Rattle.turnstile.specs.Rules.{total, root, quota_of, ticket_of, Stands, IsOut, Turning}
-use Rattle.turnstile.specs.Steps.{Draws, Polls, ticket_or}
+use Rattle.turnstile.specs.proving.Rules.{total, root, quota_of, ticket_of, Stands, IsOut, Turning}
+use Rattle.turnstile.specs.proving.Steps.{Draws, Polls, ticket_or}
 use Rattle.turnstile.proofs.People.{first_people, people_move}
 use Rattle.turnstile.proofs.Lists.{put, put_here, put_else, total_set, total_at, set_at, each_set}
 use Rattle.turnstile.proofs.Stands.{wraps, off, waits_live, in_turn_live, idle_live, held_same, held_draw, has_ticket, stands_draw, out_stays, its_own}

@@ -9,8 +9,8 @@ use Rattle.history_core.specs.declared.entry.Entry.{Entry}
 use Rattle.turnstile.specs.declared.view.View.{View}
 use Rattle.turnstile.specs.declared.view.Stage.TheVariants.{Spent, Idle}
 use Rattle.turnstile.specs.Known.{Settled}
-use Rattle.turnstile.specs.Rules.{total, quota_of, Stands, Midway, Turning, parted, newcomer, joined, nobody}
-use Rattle.turnstile.specs.Steps.{shown, Checks}
+use Rattle.turnstile.specs.proving.Rules.{total, quota_of, Stands, Midway, Turning, parted, newcomer, joined, nobody}
+use Rattle.turnstile.specs.proving.Steps.{shown, Checks}
 use Rattle.turnstile.proofs.People.{people_split, people_join, people_settled, people_alone}
 use Rattle.turnstile.proofs.Lists.{put, total_set, each_set, at_end, total_snoc}
 use Rattle.turnstile.proofs.Stands.{off, midway_live, idle_live, no_ticket, held_else, held_longer, out_stays}

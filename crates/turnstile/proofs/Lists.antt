@@ -11,7 +11,7 @@ use Rattle.history_core.specs.History.{entries_of}
 use Rattle.std.proofs.lemmas.Bool.Decides.{nat_tests}
 use Rattle.std.specs.Prelude.{nat_lt}
 use Rattle.turnstile.specs.Known.{choose, longer, shorter, numbers}
-use Rattle.turnstile.specs.Rules.{total}
+use Rattle.turnstile.specs.proving.Rules.{total}
 
 abbrev pick : {P : Type 0} → Dec P → ℕ → ℕ → ℕ
 pick (yes _) a b = a

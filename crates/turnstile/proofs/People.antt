@@ -13,8 +13,8 @@ use Rattle.turnstile.specs.declared.view.View.{View}
 use Rattle.turnstile.specs.declared.view.Stage.{Stage}
 use Rattle.turnstile.specs.declared.view.Stage.TheVariants.{Spent, Idle, Waits, InTurn, Acted}
 use Rattle.turnstile.specs.Known.{numbers, Settled}
-use Rattle.turnstile.specs.Rules.{total, root, live_of, is_live, Lives, HasPass, People, parted, newcomer, joined, nobody}
-use Rattle.turnstile.specs.Steps.{shown}
+use Rattle.turnstile.specs.proving.Rules.{total, root, live_of, is_live, Lives, HasPass, People, parted, newcomer, joined, nobody}
+use Rattle.turnstile.specs.proving.Steps.{shown}
 use Rattle.turnstile.proofs.Lists.{put, put_here, put_else, total_set, total_two, total_snoc, set_at, each_set, at_end, prefix_self, prefix_more, prefix_trans, entries_of-own, entries_of-other, longer_is, among_end, among_last, among_longer, apart_end, numbers_end, kept_with, among_number}
 
 pub live_one : (st : Stage) → st ≢ Spent → live_of st ≡ 1

@@ -9,7 +9,7 @@ use Rattle.history_core.specs.declared.entry.Entry.{Entry}
 use Rattle.turnstile.specs.declared.view.View.{View}
 use Rattle.turnstile.specs.declared.view.Stage.{Stage}
 use Rattle.turnstile.specs.declared.view.Stage.TheVariants.{Spent, Idle, Waits, InTurn, Acted}
-use Rattle.turnstile.specs.Rules.{ticket_of, Stands, IsHeld, Midway, IsOut}
+use Rattle.turnstile.specs.proving.Rules.{ticket_of, Stands, IsHeld, Midway, IsOut}
 use Rattle.turnstile.proofs.Lists.{put, put_here, put_else, set_at}
 use Rattle.std.proofs.Math.Nat.{mod-eq_of_lt}
 

@@ -1,5 +1,4 @@
 pub mod Known
 pub mod Turns
-pub mod Rules
-pub mod Steps
 pub mod Names
+pub mod proving

@@ -4,7 +4,7 @@ use Rattle.turnstile.specs.declared.turn.Turned.{Ghosts}
 use Rattle.turnstile.specs.declared.pass.Pass.{Pass}
 use Rattle.turnstile.specs.declared.turnstile.Turnstile.{Turnstile}
 use Rattle.turnstile.specs.Known.{Known}
-use Rattle.turnstile.specs.Steps.{shown}
+use Rattle.turnstile.specs.proving.Steps.{shown}
 
 module _ {T G : Type 0} {g : Ghosts T G} where
   -- what the pass knows

@@ -2,7 +2,7 @@
 //!
 //! A thread takes turns by a [`Pass`], which knows its own entries and the history as far as it has seen it. What a pass
 //! knows stands in specs/Known.antt, what one turn comes to in specs/Turns.antt, and the rule that every step of every
-//! thread keeps in specs/Rules.antt. In the order in which they are made, the turns are the steps of a `history_core`.
+//! thread keeps in specs/proving/Rules.antt. In the order in which they are made, the turns are the steps of a `history_core`.
 #![tactic(auto)]
 
 mod pass;

@@ -20,7 +20,7 @@ pub struct Turns<T> {
 }
 
 impl<T: Turned> TableRule<Option<T>, View<T::Basis>, Snapshot<T>> for Turns<T> {
-    ghost use Rattle.turnstile.specs.Rules.{Turning, root};
+    ghost use Rattle.turnstile.specs.proving.Rules.{Turning, root};
 
     ghost holds = { λ key. Turning T.history T.basis (T.basis key.value) };
 
@@ -35,7 +35,7 @@ pub type TurnSeat<T> = Seat<Option<T>, View<<T as Turned>::Basis>>;
 pub(crate) struct Knock;
 
 impl<T: Turned> Play<Option<T>, View<T::Basis>> for Knock {
-    ghost use Rattle.turnstile.specs.Steps.{Knocks};
+    ghost use Rattle.turnstile.specs.proving.Steps.{Knocks};
 
     ghost then = { Knocks };
 }
@@ -43,7 +43,7 @@ impl<T: Turned> Play<Option<T>, View<T::Basis>> for Knock {
 pub(crate) struct Draw;
 
 impl<T: Turned> Play<Option<T>, View<T::Basis>> for Draw {
-    ghost use Rattle.turnstile.specs.Steps.{Draws};
+    ghost use Rattle.turnstile.specs.proving.Steps.{Draws};
 
     ghost then = { Draws };
 }
@@ -53,7 +53,7 @@ pub(crate) struct Poll<T> {
 }
 
 impl<T: Turned> Play<Option<T>, View<T::Basis>> for Poll<T> {
-    ghost use Rattle.turnstile.specs.Steps.{Polls};
+    ghost use Rattle.turnstile.specs.proving.Steps.{Polls};
 
     ghost then = { Polls T.history T.basis };
 }
@@ -63,7 +63,7 @@ pub(crate) struct Commit<T> {
 }
 
 impl<T: Turned> Play<Option<T>, View<T::Basis>> for Commit<T> {
-    ghost use Rattle.turnstile.specs.Steps.{Commits};
+    ghost use Rattle.turnstile.specs.proving.Steps.{Commits};
 
     ghost then = { Commits T.history };
 }
@@ -73,7 +73,7 @@ pub(crate) struct Look<T> {
 }
 
 impl<T: Turned> Play<Option<T>, View<T::Basis>> for Look<T> {
-    ghost use Rattle.turnstile.specs.Steps.{Looks};
+    ghost use Rattle.turnstile.specs.proving.Steps.{Looks};
 
     ghost then = { Looks T.history };
 }
@@ -81,7 +81,7 @@ impl<T: Turned> Play<Option<T>, View<T::Basis>> for Look<T> {
 pub(crate) struct PassOn;
 
 impl<T: Turned> Play<Option<T>, View<T::Basis>> for PassOn {
-    ghost use Rattle.turnstile.specs.Steps.{PassesOn};
+    ghost use Rattle.turnstile.specs.proving.Steps.{PassesOn};
 
     ghost then = { PassesOn };
 }
@@ -102,7 +102,7 @@ pub(crate) struct Cut<Q> {
 }
 
 impl<G, Q: Part> Split<View<G>> for Cut<Q> {
-    ghost use Rattle.turnstile.specs.Rules.{parted, newcomer};
+    ghost use Rattle.turnstile.specs.proving.Rules.{parted, newcomer};
 
     ghost left = { parted Q.part };
 
@@ -112,7 +112,7 @@ impl<G, Q: Part> Split<View<G>> for Cut<Q> {
 pub(crate) struct Glue;
 
 impl<G> Join<View<G>> for Glue {
-    ghost use Rattle.turnstile.specs.Rules.{joined, nobody};
+    ghost use Rattle.turnstile.specs.proving.Rules.{joined, nobody};
 
     ghost both = { joined };
 
@@ -123,7 +123,7 @@ impl<G> Join<View<G>> for Glue {
 pub(crate) struct Check;
 
 impl<T: Turned> Play<Option<T>, View<T::Basis>> for Check {
-    ghost use Rattle.turnstile.specs.Steps.{Checks};
+    ghost use Rattle.turnstile.specs.proving.Steps.{Checks};
 
     ghost then = { Checks };
 }

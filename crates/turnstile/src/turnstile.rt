@@ -3,8 +3,8 @@ ghost use Rattle.std.specs.Prelude.{◌≡◌, ◌≤◌, ◌<◌, ◌^◌, ◌-
 ghost use Rattle.turnstile.specs.declared.view.Stage.TheVariants.{Waits};
 ghost use Rattle.turnstile.specs.Known.{first_known, after_split, new_pass, after_join, IsLonger, Settled};
 ghost use Rattle.turnstile.specs.Turns.{Serves, TookTurn};
-ghost use Rattle.turnstile.specs.Steps.{HasTurn, HasActed, Settles};
-ghost use Rattle.turnstile.specs.Rules.{parted, newcomer};
+ghost use Rattle.turnstile.specs.proving.Steps.{HasTurn, HasActed, Settles};
+ghost use Rattle.turnstile.specs.proving.Rules.{parted, newcomer};
 
 use crate::pass::Pass;
 use crate::rule::{

@@ -1,6 +1,6 @@
 use Rattle.std.proofs.Common.{◌≡◌, ◌++◌, map, drop}
 use Rattle.value_types.specs.Folds.{ty_of, value_of}
-use Rattle.key_methods.specs.Fronts.{values_front}
+use Rattle.key_methods.specs.proving.Fronts.{values_front}
 use Rattle.key_methods.specs.Kinds.{AreKeyTypes}
 use Rattle.key_methods.proofs.unpacking.read_values.Given as goal
 

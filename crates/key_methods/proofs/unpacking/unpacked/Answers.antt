@@ -2,7 +2,7 @@ use Rattle.std.proofs.Common.{◌≡◌, ◌≤◌, map, ap, sym, subst, ◌∙�
 use Rattle.std.specs.Prelude.{IfOk}
 use Rattle.std.specs.Int.{bytes_high_first}
 use Rattle.value_types.specs.Folds.{ty_of, value_of}
-use Rattle.key_methods.specs.Fronts.{values_by}
+use Rattle.key_methods.specs.proving.Fronts.{values_by}
 use Rattle.key_methods.specs.Keys.{IsKey, bytes_of}
 use Rattle.key_methods.proofs.SideBySide.{piece, wide_piece}
 use Rattle.key_methods.proofs.unpacking.unpacked.Goals as goal

@@ -1,6 +1,6 @@
 use Rattle.std.proofs.Common.{◌∷◌, ◌++◌, [], ap, sym, ◌∙◌, subst, Some}
 use Rattle.atomic_table.specs.Table.{opening}
-use Rattle.turnstile.specs.Rules.{Turning, root}
+use Rattle.turnstile.specs.proving.Rules.{Turning, root}
 use Rattle.turnstile.proofs.Coming.{opens}
 use Rattle.turnstile.proofs.turnstile.Turnstile.new.Goals as goal
 
