@@ -2,7 +2,7 @@
 ghost use Rattle.std.specs.Prelude.{◌≡◌, map, IfOk};
 ghost use Rattle.agg_terms.specs.Lists as lists;
 ghost use Rattle.agg_terms.specs.Types as types;
-ghost use Rattle.agg_defs.specs.Reached.{types_of, part_of};
+ghost use Rattle.agg_defs.specs.proving.Reached.{types_of, part_of};
 ghost use Rattle.value_types.specs.Folds.{ty_of};
 
 use std::alloc::Global;

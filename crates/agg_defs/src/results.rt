@@ -2,7 +2,7 @@
 ghost use Rattle.std.specs.Prelude.{◌≡◌, map, IfOk};
 ghost use Rattle.agg_terms.specs.Types as types;
 ghost use Rattle.agg_meaning.specs.Results as meaning;
-ghost use Rattle.agg_defs.specs.Reached.{types_of};
+ghost use Rattle.agg_defs.specs.proving.Reached.{types_of};
 ghost use Rattle.value_types.specs.Folds.{chain_of, leaf_of, ty_of};
 
 use crate::reached::{Passed, Reached, all_reached, front, within};

@@ -9,7 +9,7 @@ use Rattle.std.proofs.lemmas.Grind.{common_steps}
 use Rattle.std.proofs.lemmas.Bool.Decides.{nat_tests}
 use Rattle.agg_program.specs.Fields.{number_of}
 use Rattle.agg_program.proofs.Digits.{digit_is}
-use Rattle.agg_program.specs.Quick.{BeginsWithNumber}
+use Rattle.agg_program.specs.proving.Quick.{BeginsWithNumber}
 
 -- the digits that were read, and the number that they write
 pub record DigitsSoFar (text left : List ℕ) (number : ℕ) : Type 0 where

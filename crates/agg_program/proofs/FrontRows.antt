@@ -11,7 +11,7 @@ use Rattle.agg_program.specs.declared.fields.FieldFault.{FieldFault}
 use Rattle.agg_program.specs.declared.status.RowWhy.TheVariants.{Field, Count}
 use Rattle.agg_program.specs.Fields.{number_of}
 use Rattle.agg_program.specs.Rows.{onto, numbers_from, row_of, rows_from}
-use Rattle.agg_program.specs.Quick.{BeginsWithNumber, BeginsWithRow}
+use Rattle.agg_program.specs.proving.Quick.{BeginsWithNumber, BeginsWithRow}
 use Rattle.agg_program.proofs.Readings.{with_front}
 
 -- the first line of a text, and what follows it

@@ -14,7 +14,7 @@ use Rattle.agg_program.specs.declared.answer.Call.{Call}
 use Rattle.agg_program.specs.declared.answer.Call.TheVariants as calls
 use Rattle.agg_program.specs.Request.{is_of_columns}
 use Rattle.agg_program.specs.Answer.{arguments_in, end_before, line_of, value_of, value_text}
-use Rattle.agg_program.specs.Columns.{HoldRows, column_of, columns_line, number_of_call}
+use Rattle.agg_program.specs.proving.Columns.{HoldRows, column_of, columns_line, number_of_call}
 
 -- the arguments of a call are never NULL
 all_live : (call : Call) (rows : List (List ℕ)) → filter no_null (map (arguments_in call) rows) ≡ map (arguments_in call) rows

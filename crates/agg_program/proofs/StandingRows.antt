@@ -1,7 +1,7 @@
 -- Rows that stand in columns.
 use Rattle.std.proofs.Common.{◌≡◌, ℕ, ◌+◌, ◌<◌, ◌≤◌, List, [], ◌∷◌, ◌++◌, length, map, get_or, set, replicate, refl, sym, ap, ◌∙◌, ◌⊎◌, inl, inr, arith, length-append}
 use Rattle.std.proofs.lemmas.List.{get_or-replicate, get_or-set_same, get_or-set_other, length-set, length-replicate, map-append, map-set, get_or-map, length-map}
-use Rattle.agg_program.specs.Columns.{HoldRows}
+use Rattle.agg_program.specs.proving.Columns.{HoldRows}
 
 -- columns of nothing hold no rows
 pub hold_none : (columns : List (List ℕ)) (n : ℕ) → columns ≡ replicate n [] → HoldRows columns 0 []

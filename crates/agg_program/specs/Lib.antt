@@ -1,11 +1,10 @@
 pub mod Fields
 pub mod Rows
-pub mod Quick
 pub mod Answer
-pub mod Columns
 pub mod Request
 pub mod Refusals
 pub mod Run
 pub use Rattle.agg_ports.specs.Causes
 pub use Rattle.agg_ports.specs.Ports
 pub use Rattle.tsv_text.specs.Lines
+pub mod proving

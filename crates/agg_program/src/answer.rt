@@ -1,7 +1,7 @@
 // The line of the calls' values.
 ghost use Rattle.std.specs.Fmt.{decimal};
 ghost use Rattle.std.specs.Prelude.{◌≡◌, ◌<◌, ◌+◌, ◌++◌, ◌∷◌, [], drop, map, length, IfOk, OnOk};
-ghost use Rattle.agg_program.specs.Columns.{number_of_call, columns_line};
+ghost use Rattle.agg_program.specs.proving.Columns.{number_of_call, columns_line};
 ghost use Rattle.agg_program.specs.Answer.{end_before};
 
 use crate::columns::Columns;

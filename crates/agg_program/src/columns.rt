@@ -1,6 +1,6 @@
 // Rows of numbers, a list a column: a call reads one column from end to end.
 ghost use Rattle.std.specs.Prelude.{◌≡◌, ℕ, ◌+◌, ◌%◌, ◌^◌, ◌<◌, List, [], ◌∷◌, ◌++◌, length, map, sum, slice_index_or, vec_len, IfOk, OnOk};
-ghost use Rattle.agg_program.specs.Columns.{HoldRows};
+ghost use Rattle.agg_program.specs.proving.Columns.{HoldRows};
 
 use std::alloc::{AllocError, Global};
 

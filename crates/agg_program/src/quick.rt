@@ -1,6 +1,6 @@
 // Rows of plain digits, in one pass over their bytes. A row that isn't so is left to the judge, which alone refuses.
 ghost use Rattle.std.specs.Prelude.{ℕ, ◌≡◌, ◌<◌, ◌≤◌, length, vec_capacity, vec_len, IfSome};
-ghost use Rattle.agg_program.specs.Quick.{BeginsWithNumber, BeginsWithRow};
+ghost use Rattle.agg_program.specs.proving.Quick.{BeginsWithNumber, BeginsWithRow};
 
 // Ten times this and a digit are in the range of a u64.
 const MOST_TENS: u64 = 1_844_674_407_370_955_160;

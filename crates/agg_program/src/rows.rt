@@ -2,8 +2,8 @@
 ghost use Rattle.std.specs.Prelude.{◌≡◌, ℕ, ◌+◌, ◌<◌, ◌≤◌, ◌^◌, Ok, Err, length, map, vec_capacity, vec_len, IfOk, IfErr, OnOk};
 ghost use Rattle.tsv_text.specs.Lines.{fields_of, lines_of};
 ghost use Rattle.agg_program.specs.Rows.{numbers_from, rows_from};
-ghost use Rattle.agg_program.specs.Quick.{BeginsWithRow};
-ghost use Rattle.agg_program.specs.Columns.{HoldReading, Refuses};
+ghost use Rattle.agg_program.specs.proving.Quick.{BeginsWithRow};
+ghost use Rattle.agg_program.specs.proving.Columns.{HoldReading, Refuses};
 
 use crate::columns::Columns;
 use crate::fields::number;

@@ -17,7 +17,7 @@ use Rattle.value_types.specs.declared.value.Tree.TheViews.{out-Tree, out-Value, 
 use Rattle.value_types.specs.Folds.{entry_of, event_of, tree_of, tree_step, value_of, value_step}
 use Rattle.agg_values.proofs.Layers.{tree_image, tree_rolls, value_image, value_rolls}
 use Rattle.value_types.proofs.FoldLaws.{tree_of-Empty, value_of-Nil, value_of-Num, value_of-Bytes, value_of-List, value_of-Pairs, value_of-Cell, tree_of-Word, tree_of-Tuple, tree_of-Values, tree_of-Rows, tree_of-Events, tree_of-Slots, tree_of-Keyed}
-use Rattle.agg_values.specs.Comparing.{keyed_cmp, pair_cmp, tree_cmp, value_cmp}
+use Rattle.agg_values.specs.proving.Comparing.{keyed_cmp, pair_cmp, tree_cmp, value_cmp}
 
 -- lists compare as their images do, element by element
 pub cmp_images : {A B : Type 0} (cmp : B → B → Ordering) (f : A → B) (xs ys : List A) → slice_cmp cmp (map f xs) (map f ys) ≡ slice_cmp (λ x y. cmp (f x) (f y)) xs ys

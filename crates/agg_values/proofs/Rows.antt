@@ -9,7 +9,7 @@ use Rattle.value_types.specs.declared.ty.Ty.{Ty}
 use Rattle.value_types.specs.declared.value.Value.{Value}
 use Rattle.value_types.specs.Folds.{value_of}
 use Rattle.agg_values.specs.declared.links.Peels.{Peels}
-use Rattle.agg_values.specs.Peels.{types_of}
+use Rattle.agg_values.specs.proving.Peels.{types_of}
 
 other_length : (ts : List terms.Ty) (vs : List family.Value) → length ts ≢ length vs → false ≡ fits_row ts vs
 other_length [] [] h = absurd (h refl)

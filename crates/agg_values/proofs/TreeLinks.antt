@@ -14,7 +14,7 @@ use Rattle.value_types.specs.Folds.{chain_of, leaf_of, ty_of}
 use Rattle.value_types.proofs.FoldLaws.{chain_of-Array, chain_of-Distinct, chain_of-ForEach, chain_of-If, chain_of-Leaf, chain_of-MapOf, chain_of-Merge, chain_of-OrDefault, chain_of-OrNull, chain_of-Resample, chain_of-State}
 use Rattle.agg_values.specs.declared.links.Peels.{Peels}
 use Rattle.agg_values.specs.declared.links.Peels.TheVariants.{Whole, Element, Item}
-use Rattle.agg_values.specs.Peels.{peeled, types_of}
+use Rattle.agg_values.specs.proving.Peels.{peeled, types_of}
 use Rattle.agg_values.proofs.Inward.{front-map}
 use Rattle.agg_values.proofs.TypeKinds.{all_both}
 

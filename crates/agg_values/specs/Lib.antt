@@ -1,3 +1,2 @@
 pub use Rattle.value_types.specs.Folds
-pub mod Comparing
-pub mod Peels
+pub mod proving

@@ -5,7 +5,7 @@ ghost use Rattle.agg_terms.specs.Fitting as spec;
 ghost use Rattle.agg_terms.specs.Values.{Num};
 ghost use Rattle.agg_terms.specs.Order.{compare, compare_rows};
 ghost use Rattle.agg_terms.specs.Trees.{by_time};
-ghost use Rattle.agg_values.specs.Peels.{types_of};
+ghost use Rattle.agg_values.specs.proving.Peels.{types_of};
 ghost use Rattle.value_types.specs.Folds.{event_of, leaf_of, tree_of, ty_of, value_of};
 
 use crate::in_order::{events_stand_by_time, rows_are_apart, rows_rise, values_do_not_fall};

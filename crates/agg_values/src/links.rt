@@ -3,7 +3,7 @@
 ghost use Rattle.std.specs.Prelude.{◌≡◌, get_or, map};
 ghost use Rattle.agg_terms.specs.Lists as lists;
 ghost use Rattle.agg_terms.specs.Types as spec;
-ghost use Rattle.agg_values.specs.Peels.{peeled, types_of};
+ghost use Rattle.agg_values.specs.proving.Peels.{peeled, types_of};
 ghost use Rattle.value_types.specs.Folds.{ty_of};
 
 use value_types::{Ty, element, map_item};

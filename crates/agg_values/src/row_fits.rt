@@ -2,7 +2,7 @@
 ghost use Rattle.std.specs.Prelude.{◌≡◌, map};
 ghost use Rattle.std.specs.List.{list_all};
 ghost use Rattle.agg_terms.specs.Fitting as spec;
-ghost use Rattle.agg_values.specs.Peels.{types_of};
+ghost use Rattle.agg_values.specs.proving.Peels.{types_of};
 ghost use Rattle.value_types.specs.Folds.{value_of};
 
 use crate::links::{Peels, peel};

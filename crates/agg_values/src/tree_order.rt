@@ -4,7 +4,7 @@ ghost use Rattle.std.specs.Ordering.{nat_cmp};
 ghost use Rattle.std.specs.Cmp.Lexicographic.{slice_cmp};
 ghost use Rattle.agg_terms.specs.Order as terms;
 ghost use Rattle.value_types.specs.Folds.{event_of, tree_of};
-ghost use Rattle.agg_values.specs.Comparing.{keyed_cmp, tree_cmp, value_cmp};
+ghost use Rattle.agg_values.specs.proving.Comparing.{keyed_cmp, tree_cmp, value_cmp};
 
 use crate::order::{compare, compare_values};
 use std::cmp::Ordering;

@@ -4,7 +4,7 @@ ghost use Rattle.std.specs.List.{list_all};
 ghost use Rattle.agg_terms.specs.Fitting as spec;
 ghost use Rattle.agg_terms.specs.Order.{compare};
 ghost use Rattle.agg_terms.specs.Types as terms;
-ghost use Rattle.agg_values.specs.Peels.{types_of};
+ghost use Rattle.agg_values.specs.proving.Peels.{types_of};
 ghost use Rattle.value_types.specs.Folds.{chain_of, entry_of, tree_of, ty_of, value_of};
 
 use crate::in_order::keys_rise;

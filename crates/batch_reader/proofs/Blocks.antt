@@ -19,8 +19,8 @@ use Rattle.line_reader.specs.Limits.{ends_line, AreShort, IsBegun, IsTooLong, Is
 use Rattle.line_reader.proofs.Filled.{consumes-none, consumes-more}
 use Rattle.line_reader.proofs.Handed.{input-before, told_of, told-is}
 use Rattle.line_reader.proofs.Lines.{lines_of-append, lines_of-nil, ends_line-append, short-append}
-use Rattle.batch_reader.specs.Faults.{fault_of}
-use Rattle.batch_reader.specs.Pushing.{PushesBlock, PushesLines, PushesText, RefusesBehind, StopsBefore}
+use Rattle.batch_reader.specs.proving.Faults.{fault_of}
+use Rattle.batch_reader.specs.proving.Pushing.{PushesBlock, PushesLines, PushesText, RefusesBehind, StopsBefore}
 use Rattle.batch_reader.specs.Reading.{AreRowsUpTo, IsFront, IsReading, IsTakenOpen, ReadsRows, RefusesAt, RowCause}
 use Rattle.batch_reader.specs.declared.fault.RowFault.{RowFault}
 use Rattle.batch_reader.specs.declared.fault.RowFault.TheVariants as fault

@@ -5,7 +5,7 @@ use Rattle.tsv_text.specs.Lines.{is_newline, lines_of}
 use Rattle.line_reader.specs.Limits.{ends_line}
 use Rattle.line_reader.proofs.Lines.{lines_of-append, lines_of-nil}
 use denote.Ref.{Bor}
-use Rattle.batch_reader.specs.Pieces.{lines_in}
+use Rattle.batch_reader.specs.proving.Pieces.{lines_in}
 use Rattle.batch_reader.proofs.Lanes.{lines_in-append}
 
 -- up to a newline

@@ -14,8 +14,8 @@ use Rattle.typed_columns.specs.TypedValues.{TypedValues}
 use Rattle.typed_columns.specs.Growth.{AllFit, Fits, trim, with_values}
 use Rattle.columns.specs.Rows.{AreLong, AreTyped, RowFits, column_at, joined, row_at, rows_of, rows_upto, with_rows}
 use Rattle.columns.proofs.Rows.{long_joined, rows_joined, type_at, typed_joined}
-use Rattle.batch_reader.specs.Joining.{AreFit, JoinsColumn, columns_from, columns_of}
-use Rattle.batch_reader.specs.Pieces.{AreOf, rows_in}
+use Rattle.batch_reader.specs.proving.Joining.{AreFit, JoinsColumn, columns_from, columns_of}
+use Rattle.batch_reader.specs.proving.Pieces.{AreOf, rows_in}
 use Rattle.batch_reader.specs.declared.lane.Lane.{Lane}
 
 -- the lanes' columns at a place are of the type of the column there

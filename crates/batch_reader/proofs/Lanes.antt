@@ -17,8 +17,8 @@ use Rattle.scalar_texts.specs.States.{ReadsStates}
 use Rattle.row_texts.specs.Rows.{AreRows}
 use Rattle.row_texts.specs.declared.refusal.LineRefusal.{LineRefusal}
 use Rattle.row_texts.specs.declared.refusal.LineRefusal.TheVariants as line
-use Rattle.batch_reader.specs.Pieces.{AreOf, HasLines, HasPiece, is_refused, lines_in, rows_in}
-use Rattle.batch_reader.specs.Pushing.{PushesLines, PushesText, StopsBefore}
+use Rattle.batch_reader.specs.proving.Pieces.{AreOf, HasLines, HasPiece, is_refused, lines_in, rows_in}
+use Rattle.batch_reader.specs.proving.Pushing.{PushesLines, PushesText, StopsBefore}
 use Rattle.batch_reader.specs.declared.lane.Lane.{Lane}
 use Rattle.batch_reader.proofs.Pushed.{rows-append}
 

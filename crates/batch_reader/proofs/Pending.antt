@@ -9,8 +9,8 @@ use Rattle.line_reader.specs.Answers.{ReadsBlock}
 use Rattle.line_reader.specs.Filling.{FillCause}
 use Rattle.line_reader.specs.declared.stop.Stop.{Stop}
 use Rattle.line_reader.specs.declared.stop.Stop.TheVariants as stop
-use Rattle.batch_reader.specs.Pieces.{AreOf}
-use Rattle.batch_reader.specs.Pushing.{PushesBlock, PushesText}
+use Rattle.batch_reader.specs.proving.Pieces.{AreOf}
+use Rattle.batch_reader.specs.proving.Pushing.{PushesBlock, PushesText}
 use Rattle.batch_reader.specs.Reading.{ReadsRows}
 use Rattle.batch_reader.specs.declared.fault.RowFault.{RowFault}
 use Rattle.batch_reader.specs.declared.lane.Lane.{Lane}

@@ -6,7 +6,7 @@ use denote.Param.Members.{Shared}
 use Rattle.std.proofs.lemmas.Bool.{cases_lt}
 use Rattle.std.proofs.lemmas.List.{get_or_append_left, get_or-append_right, get_or_default, get_or-set_other, get_or-set_same}
 use Rattle.std.specs.Fork.{AcceptsAt, ChangesAt}
-use Rattle.batch_reader.specs.Apart.{AcceptsFrom, ChangesFrom}
+use Rattle.batch_reader.specs.proving.Apart.{AcceptsFrom, ChangesFrom}
 
 -- one call more, of calls one after another
 pub turn-more : {X : Type 0} (R : ℕ → X → X → Type 0) (xs ys : List X) (k : ℕ) (e y : X) → k < length ys → ((j : ℕ) (d : X) → k ≤ j → get_or ys j d ≡ get_or xs j d)

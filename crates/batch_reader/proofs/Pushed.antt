@@ -9,7 +9,7 @@ use Rattle.scalar_texts.specs.States.{ReadsStates}
 use Rattle.row_texts.specs.Rows.{AreRows, IsRowAnswer}
 use Rattle.row_texts.specs.declared.refusal.LineRefusal.{LineRefusal}
 use Rattle.line_reader.proofs.Lines.{lines_of-nil}
-use Rattle.batch_reader.specs.Pushing.{StopsBefore}
+use Rattle.batch_reader.specs.proving.Pushing.{StopsBefore}
 
 pub rows-append : (reads : ReadsStates) (types : List Ty) (lines more : List (List ℕ)) (rows others : List (List Value))
     → AreRows reads types lines rows → AreRows reads types more others → AreRows reads types (lines ++ more) (rows ++ others)

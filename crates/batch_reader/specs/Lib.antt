@@ -1,6 +1,2 @@
-pub mod Apart
-pub mod Faults
-pub mod Joining
-pub mod Pieces
-pub mod Pushing
 pub mod Reading
+pub mod proving

@@ -3,7 +3,7 @@
 ghost use Rattle.std.specs.Prelude.{◌+◌, ◌^◌, ◌<◌, length};
 ghost use Rattle.std.specs.Fork.{AcceptsAt, AcceptsEach, ChangesAt, ChangesEach};
 ghost use Rattle.std.specs.Thread.{IsSend, IsSync};
-ghost use Rattle.batch_reader.specs.Apart.{AcceptsFrom, ChangesFrom};
+ghost use Rattle.batch_reader.specs.proving.Apart.{AcceptsFrom, ChangesFrom};
 
 use std::thread::{Threads, join_mut};
 

@@ -1,7 +1,7 @@
 //! Why an input is no batch of rows.
 ghost use Rattle.std.specs.Prelude.{◌≡◌};
 ghost use Rattle.batch_reader.specs.declared.fault.RowFault.TheVariants.{OutOfMemory};
-ghost use Rattle.batch_reader.specs.Faults.{fault_of};
+ghost use Rattle.batch_reader.specs.proving.Faults.{fault_of};
 
 use row_texts::LineRefusal;
 use tsv_values::FieldFault;

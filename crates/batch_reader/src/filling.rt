@@ -3,7 +3,7 @@ ghost use Rattle.std.specs.Prelude.{◌≡◌, ◌<◌, ◌^◌, length, OnOk};
 ghost use Rattle.std.specs.List.{AllZip, HoldsAt};
 ghost use Rattle.tsv_text.specs.Lines.{lines_of};
 ghost use Rattle.row_texts.specs.Rows.{AreReadable};
-ghost use Rattle.batch_reader.specs.Pieces.{AreOf, HasLines, HasPiece};
+ghost use Rattle.batch_reader.specs.proving.Pieces.{AreOf, HasLines, HasPiece};
 
 use crate::apart::{for_each_apart, threads_for};
 use crate::lane::Lane;

@@ -4,9 +4,9 @@ ghost use Rattle.std.specs.Prelude.{◌≡◌, ◌↔◌, ◌+◌, length, map, 
 ghost use Rattle.std.specs.List.{position, slice_get};
 ghost use Rattle.scalar_texts.specs.States.{ReadsStates};
 ghost use Rattle.columns.specs.Rows.{AreLong, joined, with_rows};
-ghost use Rattle.batch_reader.specs.Pieces.{AreOf, HasLines, is_refused, rows_in};
-ghost use Rattle.batch_reader.specs.Pushing.{PushesText};
-ghost use Rattle.batch_reader.specs.Joining.{AreFit, JoinsColumn, columns_of};
+ghost use Rattle.batch_reader.specs.proving.Pieces.{AreOf, HasLines, is_refused, rows_in};
+ghost use Rattle.batch_reader.specs.proving.Pushing.{PushesText};
+ghost use Rattle.batch_reader.specs.proving.Joining.{AreFit, JoinsColumn, columns_of};
 
 use crate::apart::{for_each_apart, threads_for};
 use crate::lane::Lane;

@@ -1,7 +1,7 @@
 //! The rows of one piece of a block, in columns that are kept for the blocks behind it: room that was made once is not made again.
 ghost use Rattle.std.specs.Prelude.{◌≡◌, ◌<◌, ◌^◌, length, IfOk};
 ghost use Rattle.row_texts.specs.Rows.{AreReadable};
-ghost use Rattle.batch_reader.specs.Pieces.{HasPiece};
+ghost use Rattle.batch_reader.specs.proving.Pieces.{HasPiece};
 
 use crate::pushing::push_lines;
 use columns::Batch;

@@ -1,7 +1,7 @@
 //! A text cut into pieces of whole lines.
 ghost use Rattle.std.specs.Prelude.{◌≡◌, ◌<◌, ◌++◌, length, IfOk};
 ghost use Rattle.tsv_text.specs.Lines.{lines_of};
-ghost use Rattle.batch_reader.specs.Pieces.{lines_in};
+ghost use Rattle.batch_reader.specs.proving.Pieces.{lines_in};
 
 use std::alloc::Global;
 use value_types::OutOfMemory;

@@ -2,7 +2,7 @@
 ghost use Rattle.std.specs.Prelude.{◌≡◌, ◌<◌, ◌^◌, length};
 ghost use Rattle.tsv_text.specs.Lines.{lines_of};
 ghost use Rattle.row_texts.specs.Rows.{AreReadable};
-ghost use Rattle.batch_reader.specs.Pushing.{PushesLine, PushesLines};
+ghost use Rattle.batch_reader.specs.proving.Pushing.{PushesLine, PushesLines};
 
 use columns::Batch;
 use quick_rows::{Taken, first_line, take_row};

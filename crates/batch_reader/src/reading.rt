@@ -6,8 +6,8 @@ ghost use Rattle.line_reader.specs.Answers.{ReadsBlock};
 ghost use Rattle.line_reader.specs.Filling.{FillCause};
 ghost use Rattle.scalar_texts.specs.States.{ReadsStates};
 ghost use Rattle.row_texts.specs.Rows.{AreReadable};
-ghost use Rattle.batch_reader.specs.Pieces.{AreOf};
-ghost use Rattle.batch_reader.specs.Pushing.{PushesBlock, PushesText};
+ghost use Rattle.batch_reader.specs.proving.Pieces.{AreOf};
+ghost use Rattle.batch_reader.specs.proving.Pushing.{PushesBlock, PushesText};
 ghost use Rattle.batch_reader.specs.Reading.{ReadsRows, RowCause, types_of};
 
 use crate::RowFault;

@@ -1,2 +1,2 @@
-pub mod Args
 pub mod Calls
+pub mod proving

@@ -3,7 +3,7 @@ ghost use Rattle.agg_terms.specs.Lists as lists;
 ghost use Rattle.agg_typing.specs.Faults.{no_breach};
 ghost use Rattle.agg_typing.specs.Kinds as rules;
 ghost use Rattle.chain_params.specs.Faults.{Gives};
-ghost use Rattle.chain_types.specs.Args.{arg_of, has, part_of};
+ghost use Rattle.chain_types.specs.proving.Args.{arg_of, has, part_of};
 ghost use Rattle.std.specs.Prelude.{◌≡◌, map, IfOk};
 ghost use Rattle.value_types.specs.Folds.{chain_of, leaf_of, ty_of};
 

@@ -4,7 +4,7 @@ ghost use Rattle.agg_typing.specs.Legal.{are_legal_types};
 ghost use Rattle.agg_typing.specs.Typing as rules;
 ghost use Rattle.chain_params.specs.Faults.{Gives};
 ghost use Rattle.chain_params.specs.Literals.{literal_of};
-ghost use Rattle.chain_types.specs.Args.{arg_of};
+ghost use Rattle.chain_types.specs.proving.Args.{arg_of};
 ghost use Rattle.chain_types.specs.Calls.{call_seen};
 ghost use Rattle.pattern_texts.specs.Machine.{pattern_reader};
 ghost use Rattle.std.specs.Prelude.{◌≡◌, ◌<◌, ◌≤◌, ◌^◌, true, length, map, IfOk};

@@ -1,6 +1,6 @@
 //! Kinds of types that a function or a suffix asks for.
 ghost use Rattle.agg_typing.specs.Kinds as rules;
-ghost use Rattle.chain_types.specs.Args.{has};
+ghost use Rattle.chain_types.specs.proving.Args.{has};
 ghost use Rattle.std.specs.Prelude.{◌≡◌, ◌&&◌};
 ghost use Rattle.value_types.specs.Folds.{ty_of};
 

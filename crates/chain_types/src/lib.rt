@@ -3,7 +3,7 @@
 //!
 //! The rules stand in specs/Typing.antt of `agg_typing`; the law that what they allow is legal is `law_typing`. What an
 //! answer says of them stands in specs/Faults.antt of `chain_params`, and what the types at a link are to them in
-//! specs/Args.antt.
+//! specs/proving/Args.antt.
 #![tactic(auto)]
 
 // the number of arguments, their types, and states, from the outermost link inward

@@ -2,7 +2,7 @@
 ghost use Rattle.agg_typing.specs.Faults.{no_breach};
 ghost use Rattle.agg_typing.specs.States as rules;
 ghost use Rattle.chain_params.specs.Faults.{Gives};
-ghost use Rattle.chain_types.specs.Args.{arg_of};
+ghost use Rattle.chain_types.specs.proving.Args.{arg_of};
 ghost use Rattle.std.specs.Prelude.{◌≡◌, map};
 ghost use Rattle.value_types.specs.Folds.{chain_of, ty_of};
 

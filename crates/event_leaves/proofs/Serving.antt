@@ -4,7 +4,7 @@ use Rattle.agg_terms.specs.Chains.{Leaf, SequenceMatch, Ty, WindowFunnel}
 use Rattle.std.proofs.lemmas.List.{length-map}
 use Rattle.value_types.specs.Folds.{item_of, link_of, pattern_of}
 use Rattle.value_types.specs.declared.pattern.Pattern.{Pattern}
-use Rattle.event_leaves.specs.Patterns.{IsSearched}
+use Rattle.event_leaves.specs.proving.Patterns.{IsSearched}
 use Rattle.event_leaves.specs.Served.{IsFunnelServed, IsMatch, IsMatchServed, is_funnel_served, is_match_served}
 
 pub served : (f : Leaf) (ts : List Ty) → is_funnel_served f ts ≡ true → IsFunnelServed f ts

@@ -1,6 +1,6 @@
 //! An own copy of a pattern.
 ghost use Rattle.std.specs.Prelude.{◌≡◌, IfOk};
-ghost use Rattle.event_leaves.specs.Patterns.{IsSearched};
+ghost use Rattle.event_leaves.specs.proving.Patterns.{IsSearched};
 
 use std::alloc::Global;
 use std::marker::Model;
@@ -14,7 +14,7 @@ pub struct KeptPattern {
 
 impl Model for KeptPattern {
     ghost use Rattle.value_types.specs.declared.pattern.Pattern.{Pattern as Patterned};
-    ghost use Rattle.event_leaves.specs.Patterns.{IsSearched};
+    ghost use Rattle.event_leaves.specs.proving.Patterns.{IsSearched};
 
     ghost Value = { Patterned };
 

@@ -10,7 +10,7 @@ use Rattle.first_fault.specs.Machine.{at_end, shifted}
 use Rattle.field_texts.specs.Syntax.{Shape, shape_of}
 use Rattle.field_texts.specs.Machine as machine
 use Rattle.field_texts.specs.Machine.{before, done, letter_l, letter_u, mark_of, opened, step, step_on}
-use Rattle.field_texts.specs.Goals.{goal_seen, goes_to, is_letter_n, stack_of}
+use Rattle.field_texts.specs.proving.Goals.{goal_seen, goes_to, is_letter_n, stack_of}
 
 pub stack_push : (goals : List Goal) (g : Goal) → stack_of (goals ++ g ∷ []) ≡ goal_seen g ∷ stack_of goals
 stack_push goals g = ap (map goal_seen) (reverse-append goals (g ∷ []))

@@ -1,4 +1,4 @@
 pub mod Syntax
 pub mod Faults
 pub mod Machine
-pub mod Goals
+pub mod proving

@@ -3,7 +3,7 @@ ghost use Rattle.std.specs.Prelude.{◌≡◌, IfOk, OnOk, true, ◌∷◌};
 ghost use Rattle.agg_terms.specs.Types.{bare};
 ghost use Rattle.value_types.specs.Folds.{ty_of};
 ghost use Rattle.field_texts.specs.Syntax.{shape_of, number};
-ghost use Rattle.field_texts.specs.Goals.{goal_seen, is_letter_n, look_shape, stack_of, goes_to};
+ghost use Rattle.field_texts.specs.proving.Goals.{goal_seen, is_letter_n, look_shape, stack_of, goes_to};
 ghost use Rattle.field_texts.specs.Machine as machine;
 
 use crate::mark::Mark;

@@ -3,7 +3,7 @@ ghost use Rattle.std.specs.Prelude.{◌≡◌, ℕ, List, IfOk, if◌then◌else
 ghost use Rattle.first_fault.specs.FirstFault.{IsReading};
 ghost use Rattle.value_types.specs.Folds.{ty_of};
 ghost use Rattle.field_texts.specs.Syntax.{Shape, IsField, shape_of};
-ghost use Rattle.field_texts.specs.Goals.{stack_of};
+ghost use Rattle.field_texts.specs.proving.Goals.{stack_of};
 ghost use Rattle.field_texts.specs.Faults.{IsFieldFault};
 ghost use Rattle.field_texts.specs.Machine as machine;
 

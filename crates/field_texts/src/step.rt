@@ -2,7 +2,7 @@
 ghost use Rattle.std.specs.Prelude.{◌≡◌, IfOk, OnOk, true, ◌∷◌};
 ghost use Rattle.value_types.specs.Folds.{ty_of};
 ghost use Rattle.field_texts.specs.Syntax.{shape_of};
-ghost use Rattle.field_texts.specs.Goals.{stack_of, goes_to};
+ghost use Rattle.field_texts.specs.proving.Goals.{stack_of, goes_to};
 ghost use Rattle.field_texts.specs.Machine as machine;
 
 use crate::goal::{Goal, open, push};

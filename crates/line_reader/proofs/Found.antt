@@ -7,7 +7,7 @@ use mathlib.Core.Logic.{inl, inr}
 use Rattle.std.proofs.lemmas.List.{take-take, take_all, length-take-le, get_or-take}
 use Rattle.std.proofs.lemmas.List.Sums.{passes_at_first}
 use Rattle.tsv_text.specs.Lines.{is_newline}
-use Rattle.line_reader.specs.Awaiting.{FindsLine}
+use Rattle.line_reader.specs.proving.Awaiting.{FindsLine}
 use Rattle.line_reader.specs.Limits.{IsUnbroken}
 use Rattle.line_reader.proofs.Lines.{Kind, newline, other, kind_of}
 use Rattle.line_reader.proofs.Grown.{place, place-newline, place-other}

@@ -5,7 +5,7 @@ use Rattle.line_reader.specs.declared.fault.LineFault.{LineFault}
 use Rattle.line_reader.specs.declared.fault.LineFault.TheVariants.{Read, TooLong, TooLarge, OutOfMemory}
 use Rattle.line_reader.specs.Ahead.{Ahead, IsInput}
 use Rattle.line_reader.specs.Answers.{IsHeld, IsNext, ReadsNext}
-use Rattle.line_reader.specs.Awaiting.{AwaitsLine, TakesLine}
+use Rattle.line_reader.specs.proving.Awaiting.{AwaitsLine, TakesLine}
 use Rattle.line_reader.specs.Limits.{next_of, behind_next}
 use Rattle.line_reader.proofs.Next.{next-cut, behind-cut, next-unbroken, behind-unbroken}
 use Rattle.line_reader.proofs.Grown.{long-grows, large-grows}

@@ -1,7 +1,6 @@
 pub mod Taking
 pub mod Limits
-pub mod Breaks
 pub mod Ahead
 pub mod Filling
-pub mod Awaiting
 pub mod Answers
+pub mod proving

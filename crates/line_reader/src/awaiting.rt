@@ -2,7 +2,7 @@
 ghost use Rattle.std.specs.Prelude.{◌≡◌, ◌+◌, ◌≤◌, length, min, take};
 ghost use Rattle.std.specs.List.{position};
 ghost use Rattle.tsv_text.specs.Lines.{is_newline};
-ghost use Rattle.line_reader.specs.Awaiting.{AwaitsLine, FindsLine};
+ghost use Rattle.line_reader.specs.proving.Awaiting.{AwaitsLine, FindsLine};
 ghost use Rattle.line_reader.specs.Answers.{LineCause};
 
 use crate::filling::piece_len;

@@ -1,7 +1,7 @@
 //! What was taken from a source ahead of what was handed out, with the limits: the lines come from here.
 ghost use Rattle.std.specs.Prelude.{◌≡◌, [], ◌+◌, ◌-◌, ◌≤◌, IfOk, OnOk, drop, length, take};
 ghost use Rattle.line_reader.specs.Ahead.{new_ahead};
-ghost use Rattle.line_reader.specs.Awaiting.{TakesLine};
+ghost use Rattle.line_reader.specs.proving.Awaiting.{TakesLine};
 ghost use Rattle.line_reader.specs.Answers.{LineCause, ReadsBlock, ReadsNext};
 ghost use Rattle.line_reader.specs.Filling.{FillCause, block_end};
 

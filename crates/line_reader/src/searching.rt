@@ -1,7 +1,7 @@
 //! Where lines end, and where a limit is broken.
 ghost use Rattle.std.specs.Prelude.{◌≡◌, ◌+◌, ◌≤◌, true, length, take, drop, MatchOption};
 ghost use Rattle.line_reader.specs.Limits.{ends_line, IsUnbroken};
-ghost use Rattle.line_reader.specs.Breaks.{IsBreak};
+ghost use Rattle.line_reader.specs.proving.Breaks.{IsBreak};
 
 /// Which limit a line breaks first.
 #[derive(Clone, Copy, Debug, PartialEq, Eq)]

@@ -4,7 +4,7 @@ use Rattle.agg_terms.specs.Order.{best, of_two}
 use Rattle.agg_terms.specs.Trees.{one_tree, pair_tree}
 use Rattle.agg_terms.specs.Values.{Value}
 use Rattle.agg_meaning.specs.Functions.{arg_val, higher, higher_second, lower, lower_second, option_first, or_nothing, the_arg}
-use Rattle.plain_functions.specs.Best.{beats_at, first_of, one_of, pair_of}
+use Rattle.plain_functions.specs.proving.Best.{beats_at, first_of, one_of, pair_of}
 
 mapped : {X Y : Type 0} → (X → Y) → Option X → Option Y
 mapped f None = None

@@ -2,7 +2,7 @@
 ghost use Rattle.std.specs.Prelude.{◌≡◌, None, Some, MatchOption};
 ghost use Rattle.agg_terms.specs.Order as terms;
 ghost use Rattle.plain_rows.specs.Rows.{row_of, rows_of};
-ghost use Rattle.plain_functions.specs.Best.{beats_at};
+ghost use Rattle.plain_functions.specs.proving.Best.{beats_at};
 
 use agg_values::{Seq, Value, compare};
 use plain_rows::arg;

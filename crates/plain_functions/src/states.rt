@@ -12,7 +12,7 @@ ghost use Rattle.agg_meaning.specs.Suffixes as suffixes;
 ghost use Rattle.value_types.specs.Folds.{leaf_of, tree_of, ty_of, value_of};
 ghost use Rattle.plain_rows.specs.Operations.{op_of};
 ghost use Rattle.plain_rows.specs.Rows.{rows_of};
-ghost use Rattle.plain_functions.specs.Best.{beats_at, one_of, pair_of};
+ghost use Rattle.plain_functions.specs.proving.Best.{beats_at, one_of, pair_of};
 ghost use Rattle.plain_rows.specs.Served.{AreEvents, IsServed};
 
 use crate::best::best_row;

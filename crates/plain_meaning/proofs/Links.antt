@@ -16,7 +16,7 @@ use Rattle.value_types.specs.declared.value.Tree.{Tree}
 use Rattle.value_types.specs.Folds.{chain_of, tree_of, value_of}
 use Rattle.value_types.proofs.FoldLaws.{chain_of-Array, chain_of-Distinct, chain_of-ForEach, chain_of-If, chain_of-MapOf, chain_of-OrDefault, chain_of-OrNull, chain_of-Resample, chain_of-State}
 use Rattle.plain_meaning.specs.declared.answer.Answer.{Answer}
-use Rattle.plain_meaning.specs.Answers.{Answers}
+use Rattle.plain_meaning.specs.proving.Answers.{Answers}
 use Rattle.plain_meaning.specs.Inward.{IsEvaluated, element_rows, first_live, met_rows}
 use Rattle.plain_meaning.proofs.Arms.{array_fed, array_means, array_normal, distinct_fed, distinct_means, distinct_normal, if_fed, if_means, if_normal}
 use Rattle.plain_meaning.proofs.Picked.{as_they_are}

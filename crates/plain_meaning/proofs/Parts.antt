@@ -11,8 +11,8 @@ use Rattle.value_types.specs.Folds.{entry_of, tree_of, value_of}
 use Rattle.plain_meaning.specs.declared.answer.Answer.{Answer}
 use Rattle.plain_meaning.specs.declared.answer.Gathered.{Gathered}
 use Rattle.plain_meaning.specs.declared.answer.Keyed.{Keyed}
-use Rattle.plain_meaning.specs.Answers.{Answers, AtKeys, Gathers}
-use Rattle.plain_meaning.specs.Images.{image_of}
+use Rattle.plain_meaning.specs.proving.Answers.{Answers, AtKeys, Gathers}
+use Rattle.plain_meaning.specs.proving.Images.{image_of}
 use Rattle.plain_meaning.specs.Inward.{IsEvaluated, fed_of, meaning_of, normal_of, place_count, row_keys, rows_at, rows_at_key, rows_inside}
 use Rattle.plain_meaning.proofs.Arms.{each_fed, each_means, each_normal, map_fed, map_means, map_normal, resample_fed, resample_means, resample_normal}
 

@@ -1,4 +1,3 @@
-pub mod Answers
 pub mod Chains
-pub mod Images
 pub mod Inward
+pub mod proving

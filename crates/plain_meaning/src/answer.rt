@@ -2,7 +2,7 @@
 ghost use Rattle.std.specs.Prelude.{◌≡◌, [], ◌∷◌, ◌++◌, ◌||◌, false, IfOk, map};
 ghost use Rattle.agg_terms.specs.Values.{list_value, map_value, keyed_tree, slots_tree};
 ghost use Rattle.value_types.specs.Folds.{entry_of, tree_of, value_of};
-ghost use Rattle.plain_meaning.specs.Images.{image_of};
+ghost use Rattle.plain_meaning.specs.proving.Images.{image_of};
 
 use agg_values::{KeyedTree, OutOfMemory, Seq, Tree, Value};
 use std::alloc::Global;

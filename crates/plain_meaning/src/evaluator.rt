@@ -5,7 +5,7 @@ ghost use Rattle.agg_terms.specs.Values.{Nil};
 ghost use Rattle.agg_meaning.specs.Results as results;
 ghost use Rattle.value_types.specs.Folds.{chain_of, leaf_of, ty_of, value_of};
 ghost use Rattle.plain_rows.specs.Rows.{rows_of};
-ghost use Rattle.plain_meaning.specs.Answers.{Answers};
+ghost use Rattle.plain_meaning.specs.proving.Answers.{Answers};
 ghost use Rattle.plain_meaning.specs.Inward.{IsEvaluated};
 
 use crate::answer::{Answer, Gathered, Keyed};

@@ -5,7 +5,7 @@ ghost use Rattle.agg_meaning.specs.Feeds as feeds;
 ghost use Rattle.agg_meaning.specs.Suffixes.{at_key};
 ghost use Rattle.value_types.specs.Folds.{value_of};
 ghost use Rattle.plain_rows.specs.Rows.{row_of, rows_of};
-ghost use Rattle.plain_meaning.specs.Images.{image_of};
+ghost use Rattle.plain_meaning.specs.proving.Images.{image_of};
 ghost use Rattle.plain_meaning.specs.Inward.{all_row_keys, entry_row, entry_rows, keys_in, row_keys as keys_of, rows_at_key as at_key_of};
 
 use crate::passed::last;

@@ -15,11 +15,11 @@ use Rattle.line_forms.specs.declared.name.WrittenName.{WrittenName}
 use Rattle.line_forms.specs.declared.select.WrittenCall.{WrittenCall}
 use Rattle.line_forms.specs.declared.fault.LineFault.{LineFault}
 use Rattle.line_forms.specs.declared.fault.LineFault.TheVariants.{Syntax, OutOfMemory}
-use Rattle.request_lines.specs.Judging.{Goal, a_name, names, opening, closing, a_literal, literals, call, in_call, maybe_arguments, in_names, calls, group, keyword, step, stop}
+use Rattle.request_lines.specs.proving.Judging.{Goal, a_name, names, opening, closing, a_literal, literals, call, in_call, maybe_arguments, in_names, calls, group, keyword, step, stop}
 use Rattle.request_lines.specs.declared.rest.Rest.{Rest}
 use Rattle.request_lines.specs.declared.calls.Inside.{Inside}
-use Rattle.request_lines.specs.Letters.{letters_left, IsFurther}
-use Rattle.request_lines.specs.Reads.{Passes, Reads, IsToken, IsNameOf, AreNames, LiteralFits, IsLiteralOf, AreLiteralsRead, AreArguments, AreParamsRead, inside_signs, IsInside, IsEmptyInside, IsCall, AreCallsRead, AreKeys, IsRequest}
+use Rattle.request_lines.specs.proving.Letters.{letters_left, IsFurther}
+use Rattle.request_lines.specs.proving.Reads.{Passes, Reads, IsToken, IsNameOf, AreNames, LiteralFits, IsLiteralOf, AreLiteralsRead, AreArguments, AreParamsRead, inside_signs, IsInside, IsEmptyInside, IsCall, AreCallsRead, AreKeys, IsRequest}
 use Rattle.request_lines.proofs.Found.{opened}
 use Rattle.request_lines.proofs.Leading.{leads_on}
 use Rattle.request_lines.proofs.ListsRead.{further_on, passes_on, each-map}

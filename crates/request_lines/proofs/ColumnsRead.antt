@@ -12,10 +12,10 @@ use Rattle.type_shapes.specs.declared.shape.TypeShape.{TypeShape}
 use Rattle.line_forms.specs.Letters.{Letter, sign, name_part, Leads}
 use Rattle.line_forms.specs.Tables.{IsShapeOf}
 use Rattle.line_forms.specs.declared.name.WrittenName.{WrittenName}
-use Rattle.request_lines.specs.Judging.{a_name, in_type}
+use Rattle.request_lines.specs.proving.Judging.{a_name, in_type}
 use Rattle.request_lines.specs.declared.rest.Rest.{Rest}
-use Rattle.request_lines.specs.Letters.{letters_left, IsFurther}
-use Rattle.request_lines.specs.Reads.{Passes, IsName, IsType, IsColumn}
+use Rattle.request_lines.specs.proving.Letters.{letters_left, IsFurther}
+use Rattle.request_lines.specs.proving.Reads.{Passes, IsName, IsType, IsColumn}
 use Rattle.request_lines.proofs.Found.{tokens_in}
 use Rattle.request_lines.proofs.Leading.{leads_on}
 use Rattle.request_lines.proofs.ListsRead.{further_on, passes_on}

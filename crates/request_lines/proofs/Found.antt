@@ -20,10 +20,10 @@ use Rattle.line_forms.specs.Tables as tables
 use Rattle.line_forms.specs.Selects.{Params, no_params, params, CallText, names_signs, literal_part, params_signs, call_signs, group_signs, SelectText, select_signs, ParamsFit, CallFits, HasCalls}
 use Rattle.line_forms.specs.Selects as selects
 use Rattle.line_forms.specs.ScriptLines.{LineText, view, session, insert, load, read, states, line_signs, LineFits}
-use Rattle.request_lines.specs.Judging.{Goal, keyword, a_name, names, in_type, columns, opening, closing, a_literal, literals, call, in_call, maybe_arguments, in_names, calls, group, a_number, a_count, a_line, some_if, in_types, select_goals, line_kind, line_goals, step, done, move}
+use Rattle.request_lines.specs.proving.Judging.{Goal, keyword, a_name, names, in_type, columns, opening, closing, a_literal, literals, call, in_call, maybe_arguments, in_names, calls, group, a_number, a_count, a_line, some_if, in_types, select_goals, line_kind, line_goals, step, done, move}
 use Rattle.request_lines.specs.declared.script.LineKind.{LineKind}
 use Rattle.request_lines.specs.declared.script.LineKind.TheVariants.{View, Session, Insert, Load, Read, States, Other}
-use Rattle.request_lines.specs.Reads.{inside_signs}
+use Rattle.request_lines.specs.proving.Reads.{inside_signs}
 use Rattle.request_lines.proofs.LineKinds.{IsKind, is_kind}
 use Rattle.request_lines.proofs.Leading.{put}
 

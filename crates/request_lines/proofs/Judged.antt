@@ -10,7 +10,7 @@ use Rattle.line_forms.specs.Tables.{ColumnText, column_signs, IsTable}
 use Rattle.line_forms.specs.Selects.{select_signs, IsSelect}
 use Rattle.line_forms.specs.ScriptLines.{line_signs, IsScriptLine}
 use Rattle.line_forms.specs.Answers.{IsFirstFault}
-use Rattle.request_lines.specs.Judging.{Goal, a_line, table_goals, select_goals, step, done, move, at_end, at_step, stop}
+use Rattle.request_lines.specs.proving.Judging.{Goal, a_line, table_goals, select_goals, step, done, move, at_end, at_step, stop}
 use Rattle.request_lines.proofs.Found.{Sound, kept, found, table_found, select_found, line_found}
 use Rattle.request_lines.proofs.Only.{same_run, table_run, select_run, line_run, goes_on}
 

@@ -4,7 +4,7 @@ use Rattle.std.specs.Str.{bytes_eq}
 use Rattle.std.proofs.lemmas.Slice.Eq.{bytes_eq-Decides}
 use Rattle.request_lines.specs.declared.script.LineKind.{LineKind}
 use Rattle.request_lines.specs.declared.script.LineKind.TheVariants.{View, Session, Insert, Load, Read, States, Other}
-use Rattle.request_lines.specs.Judging.{line_kind}
+use Rattle.request_lines.specs.proving.Judging.{line_kind}
 
 abbrev pub IsKind : LineKind → List ℕ → Type 0
 IsKind View w = w ≡ codes "VIEW"

@@ -14,9 +14,9 @@ use Rattle.line_forms.specs.declared.table.WrittenColumn.{WrittenColumn}
 use Rattle.line_forms.specs.declared.fault.LineFault.{LineFault}
 use Rattle.line_forms.specs.declared.fault.LineFault.TheVariants.{Syntax, OutOfMemory}
 use Rattle.request_lines.specs.declared.rest.Rest.{Rest}
-use Rattle.request_lines.specs.Letters.{letters_left}
-use Rattle.request_lines.specs.Judging.{Goal, a_line, table_goals, select_goals, stop}
-use Rattle.request_lines.specs.Reads.{IsToken, AreColumnsRead, IsTableOf, IsSelectRead, IsLineRead, ReadsAll}
+use Rattle.request_lines.specs.proving.Letters.{letters_left}
+use Rattle.request_lines.specs.proving.Judging.{Goal, a_line, table_goals, select_goals, stop}
+use Rattle.request_lines.specs.proving.Reads.{IsToken, AreColumnsRead, IsTableOf, IsSelectRead, IsLineRead, ReadsAll}
 use Rattle.request_lines.proofs.Judged.{table_fault, select_fault, line_fault}
 use Rattle.request_lines.proofs.Leading.{leads_on}
 use Rattle.request_lines.proofs.ListsRead.{each-map}

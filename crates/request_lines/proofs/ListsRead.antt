@@ -5,10 +5,10 @@ use Rattle.type_shapes.specs.declared.mark.Mark.TheVariants.{Dividing}
 use Rattle.line_forms.specs.Letters.{Sign, sign, Leads, more_parts, Every, Each}
 use Rattle.line_forms.specs.declared.fault.LineFault.{LineFault}
 use Rattle.line_forms.specs.declared.fault.LineFault.TheVariants.{Syntax, OutOfMemory}
-use Rattle.request_lines.specs.Judging.{Goal, step, done, at_step, stop}
+use Rattle.request_lines.specs.proving.Judging.{Goal, step, done, at_step, stop}
 use Rattle.request_lines.specs.declared.rest.Rest.{Rest}
-use Rattle.request_lines.specs.Letters.{letters_left, IsFurther}
-use Rattle.request_lines.specs.Reads.{Passes, IsFault, IsItem, AreItems}
+use Rattle.request_lines.specs.proving.Letters.{letters_left, IsFurther}
+use Rattle.request_lines.specs.proving.Reads.{Passes, IsFault, IsItem, AreItems}
 use Rattle.request_lines.proofs.Leading.{leads_on}
 use Rattle.request_lines.proofs.Steps.{HasNoMark, left_out}
 

@@ -12,7 +12,7 @@ use Rattle.line_forms.specs.Letters.{Letter, Sign, sign, Name, name_part, more_p
 use Rattle.line_forms.specs.Tables.{ColumnText, column_signs, ColumnFits}
 use Rattle.line_forms.specs.Selects.{Params, no_params, params, CallText, names_signs, literal_part, params_signs, call_signs, group_signs, ParamsFit, CallFits, HasCalls}
 use Rattle.line_forms.specs.ScriptLines.{LineText, view, session, insert, load, read, states, line_signs, LineFits}
-use Rattle.request_lines.specs.Judging.{Goal, keyword, a_name, names, in_type, columns, opening, closing, a_literal, literals, call, in_call, maybe_arguments, in_names, calls, group, a_number, a_count, a_line, select_goals, table_goals, step, done, move}
+use Rattle.request_lines.specs.proving.Judging.{Goal, keyword, a_name, names, in_type, columns, opening, closing, a_literal, literals, call, in_call, maybe_arguments, in_names, calls, group, a_number, a_count, a_line, select_goals, table_goals, step, done, move}
 use Rattle.request_lines.proofs.Found.{Sound}
 use Rattle.request_lines.proofs.TypesIn.{Runs, types_run}
 

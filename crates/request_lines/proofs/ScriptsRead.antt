@@ -12,12 +12,12 @@ use Rattle.line_forms.specs.declared.script_line.WrittenLine.{WrittenLine}
 use Rattle.line_forms.specs.declared.script_line.WrittenLine.TheVariants as code
 use Rattle.line_forms.specs.declared.fault.LineFault.{LineFault}
 use Rattle.line_forms.specs.declared.fault.LineFault.TheVariants.{Syntax, OutOfMemory}
-use Rattle.request_lines.specs.Judging.{Goal, a_number, a_count, a_line, line_kind, line_goals, step, done, stop}
+use Rattle.request_lines.specs.proving.Judging.{Goal, a_number, a_count, a_line, line_kind, line_goals, step, done, stop}
 use Rattle.request_lines.specs.declared.script.LineKind.{LineKind}
 use Rattle.request_lines.specs.declared.script.LineKind.TheVariants.{Other}
 use Rattle.request_lines.specs.declared.rest.Rest.{Rest}
-use Rattle.request_lines.specs.Letters.{letters_left}
-use Rattle.request_lines.specs.Reads.{IsFault, EndsAt, ReadsAll, IsName, IsCount, IsRequest, IsBehindKeyword, IsLineRead}
+use Rattle.request_lines.specs.proving.Letters.{letters_left}
+use Rattle.request_lines.specs.proving.Reads.{IsFault, EndsAt, ReadsAll, IsName, IsCount, IsRequest, IsBehindKeyword, IsLineRead}
 use Rattle.request_lines.proofs.Leading.{leads_on}
 use Rattle.request_lines.proofs.LineKinds.{IsKind, is_kind}
 use Rattle.request_lines.proofs.Steps.{Refuses, HasNoWord, stops_first, faults, no_word}
@@ -73,7 +73,7 @@ line_told k key goals w at rest behind (Ok form) kind is goes first whole h = (
 )
 line_told k key goals w at rest behind (Err (Syntax place)) kind is goes first whole h =
     ap (stop rest.whole (a_line ∷ [])) first
-    ∙ ap (λ o. Rattle.request_lines.specs.Judging.at_step (λ v. stop rest.whole v (letters_left behind)) at o) (ap (λ x. line_goals x []) kind ∙ goes)
+    ∙ ap (λ o. Rattle.request_lines.specs.proving.Judging.at_step (λ v. stop rest.whole v (letters_left behind)) at o) (ap (λ x. line_goals x []) kind ∙ goes)
     ∙ ap (λ n. stop n goals (letters_left behind)) (sym whole) ∙ h
 line_told k key goals w at rest behind (Err OutOfMemory) kind is goes first whole h = tt
 

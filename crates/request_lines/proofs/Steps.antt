@@ -9,9 +9,9 @@ use Rattle.type_shapes.specs.declared.mark.Mark.{Mark}
 use Rattle.type_shapes.specs.declared.mark.Mark.TheVariants.{Opening, Closing}
 use Rattle.type_shapes.specs.Reading.{mark_token}
 use Rattle.request_lines.specs.declared.rest.Rest.{Rest}
-use Rattle.request_lines.specs.Letters.{letters_left}
-use Rattle.request_lines.specs.Reads.{IsFault}
-use Rattle.request_lines.specs.Judging.{Goal, keyword, a_name, names, columns, opening, closing, literals, call, calls, some_if, step, done, at_end, at_step, stop}
+use Rattle.request_lines.specs.proving.Letters.{letters_left}
+use Rattle.request_lines.specs.proving.Reads.{IsFault}
+use Rattle.request_lines.specs.proving.Judging.{Goal, keyword, a_name, names, columns, opening, closing, literals, call, calls, some_if, step, done, at_end, at_step, stop}
 
 -- the goals want something that doesn't come first
 abbrev pub Refuses : List Goal → List Letter → Type 0

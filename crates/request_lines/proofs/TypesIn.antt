@@ -12,7 +12,7 @@ use Rattle.type_names.specs.declared.goal.Goal.TheVariants.{AnyType, PlainType, 
 use Rattle.type_names.specs.Judging as types
 use Rattle.type_names.proofs.Only as types_only
 use Rattle.line_forms.specs.Letters.{Sign, sign}
-use Rattle.request_lines.specs.Judging.{Goal, in_type, in_types, done, move}
+use Rattle.request_lines.specs.proving.Judging.{Goal, in_type, in_types, done, move}
 
 -- the goals in place of the first one, before those below it
 abbrev pub onto : List TypeGoal → Option (List TypeGoal) → Option (List TypeGoal)

@@ -8,10 +8,10 @@ use Rattle.type_names.specs.declared.goal.Goal.TheVariants.{AnyType}
 use Rattle.type_names.specs.Judging as types
 use Rattle.type_names.proofs.Found as types_found
 use Rattle.line_forms.specs.Letters.{Letter, sign, Leads, place}
-use Rattle.request_lines.specs.Judging.{Goal, in_type, in_types, at_step, stop}
+use Rattle.request_lines.specs.proving.Judging.{Goal, in_type, in_types, at_step, stop}
 use Rattle.request_lines.specs.declared.rest.Rest.{Rest}
-use Rattle.request_lines.specs.Letters.{letters_left, IsFurther}
-use Rattle.request_lines.specs.Reads.{Passes, IsFault, IsType}
+use Rattle.request_lines.specs.proving.Letters.{letters_left, IsFurther}
+use Rattle.request_lines.specs.proving.Reads.{Passes, IsFault, IsType}
 use Rattle.line_forms.specs.declared.fault.LineFault.TheVariants.{Syntax}
 use Rattle.request_lines.proofs.Found.{tokens_in, anywhere, type_alone}
 use Rattle.request_lines.proofs.Leading.{leads_more}

@@ -1,3 +1,1 @@
-pub mod Letters
-pub mod Judging
-pub mod Reads
+pub mod proving

@@ -1,8 +1,8 @@
 //! The calls of a request.
 
 ghost use Rattle.std.specs.Prelude.{◌∷◌, []};
-ghost use Rattle.request_lines.specs.Judging.{a_name, names, opening, closing, a_literal, literals, call, calls, in_call, maybe_arguments, in_names};
-ghost use Rattle.request_lines.specs.Reads.{Reads, AreArguments, AreParamsRead, IsInside, IsEmptyInside, IsCall, AreCallsRead};
+ghost use Rattle.request_lines.specs.proving.Judging.{a_name, names, opening, closing, a_literal, literals, call, calls, in_call, maybe_arguments, in_names};
+ghost use Rattle.request_lines.specs.proving.Reads.{Reads, AreArguments, AreParamsRead, IsInside, IsEmptyInside, IsCall, AreCallsRead};
 
 use crate::literals::read_literals;
 use crate::marks::{skip_closing, skip_opening};

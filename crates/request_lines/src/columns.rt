@@ -2,8 +2,8 @@
 
 ghost use Rattle.std.specs.Prelude.{◌∷◌, []};
 ghost use Rattle.type_names.specs.declared.goal.Goal.TheVariants.{AnyType};
-ghost use Rattle.request_lines.specs.Judging.{a_name, in_type, columns};
-ghost use Rattle.request_lines.specs.Reads.{Reads, IsColumn, AreColumnsRead};
+ghost use Rattle.request_lines.specs.proving.Judging.{a_name, in_type, columns};
+ghost use Rattle.request_lines.specs.proving.Reads.{Reads, IsColumn, AreColumnsRead};
 
 use crate::names::read_name;
 use crate::rest::Rest;

@@ -1,7 +1,7 @@
 //! Readers of the lines of requests and scripts, with the exact place of a line's first fault.
 //!
 //! What a line spells stands in `line_forms`. A reader takes one token after another and stops at the first one that no
-//! line of its form goes on with: specs/Judging.antt says where that is, and specs/Reads.antt what each part of a reader
+//! line of its form goes on with: specs/proving/Judging.antt says where that is, and specs/proving/Reads.antt what each part of a reader
 //! answers.
 #![tactic(auto)]
 

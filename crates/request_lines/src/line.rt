@@ -1,8 +1,8 @@
 //! Whole lines, read.
 
 ghost use Rattle.line_forms.specs.Answers.{IsTableAnswer, IsSelectAnswer, IsLineAnswer};
-ghost use Rattle.request_lines.specs.Judging.{table_goals, select_goals};
-ghost use Rattle.request_lines.specs.Reads.{ReadsAll, IsTableOf, IsSelectRead};
+ghost use Rattle.request_lines.specs.proving.Judging.{table_goals, select_goals};
+ghost use Rattle.request_lines.specs.proving.Reads.{ReadsAll, IsTableOf, IsSelectRead};
 
 use crate::columns::read_columns;
 use crate::marks::{end, skip_keyword};

@@ -1,8 +1,8 @@
 //! The parameters of a call.
 
 ghost use Rattle.std.specs.Prelude.{◌∷◌, []};
-ghost use Rattle.request_lines.specs.Judging.{a_literal, literals};
-ghost use Rattle.request_lines.specs.Reads.{Reads, IsLiteralRead, AreLiteralsRead};
+ghost use Rattle.request_lines.specs.proving.Judging.{a_literal, literals};
+ghost use Rattle.request_lines.specs.proving.Reads.{Reads, IsLiteralRead, AreLiteralsRead};
 
 use crate::rest::Rest;
 use line_forms::LineFault;

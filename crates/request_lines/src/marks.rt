@@ -3,8 +3,8 @@
 ghost use Rattle.std.specs.Prelude.{◌≡◌, ◌∷◌, []};
 ghost use Rattle.std.specs.Str.{bytes_eq};
 ghost use Rattle.line_tokens.specs.Tokens.{word, open_bracket, close_bracket};
-ghost use Rattle.request_lines.specs.Judging.{keyword, opening, closing};
-ghost use Rattle.request_lines.specs.Reads.{Skips, IsToken, Ends};
+ghost use Rattle.request_lines.specs.proving.Judging.{keyword, opening, closing};
+ghost use Rattle.request_lines.specs.proving.Reads.{Skips, IsToken, Ends};
 
 use crate::rest::Rest;
 use line_forms::LineFault;

@@ -1,8 +1,8 @@
 //! Names of columns and views.
 
 ghost use Rattle.std.specs.Prelude.{◌∷◌, []};
-ghost use Rattle.request_lines.specs.Judging.{a_name, names};
-ghost use Rattle.request_lines.specs.Reads.{Reads, IsName, AreNames};
+ghost use Rattle.request_lines.specs.proving.Judging.{a_name, names};
+ghost use Rattle.request_lines.specs.proving.Reads.{Reads, IsName, AreNames};
 
 use crate::rest::Rest;
 use line_forms::{LineFault, WrittenName};

@@ -1,8 +1,8 @@
 //! The counts of INSERT and LOAD.
 
 ghost use Rattle.std.specs.Prelude.{◌∷◌, []};
-ghost use Rattle.request_lines.specs.Judging.{a_count};
-ghost use Rattle.request_lines.specs.Reads.{Reads, IsCount};
+ghost use Rattle.request_lines.specs.proving.Judging.{a_count};
+ghost use Rattle.request_lines.specs.proving.Reads.{Reads, IsCount};
 
 use crate::rest::Rest;
 use line_forms::LineFault;

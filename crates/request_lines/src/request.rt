@@ -1,8 +1,8 @@
 //! A request: its calls and its keys.
 
 ghost use Rattle.std.specs.Prelude.{◌∷◌, []};
-ghost use Rattle.request_lines.specs.Judging.{group, select_goals};
-ghost use Rattle.request_lines.specs.Reads.{Reads, AreKeys, IsRequest};
+ghost use Rattle.request_lines.specs.proving.Judging.{group, select_goals};
+ghost use Rattle.request_lines.specs.proving.Reads.{Reads, AreKeys, IsRequest};
 
 use crate::calls::read_calls;
 use crate::marks::{is, skip_keyword};

@@ -7,7 +7,7 @@ ghost use Rattle.line_forms.specs.Letters.{Letter, place};
 ghost use Rattle.line_forms.specs.declared.fault.LineFault.TheVariants.{Syntax};
 ghost use Rattle.type_shapes.specs.Reading.{mark_token};
 ghost use Rattle.type_shapes.specs.Literals.{HasValue, IsSmallInteger};
-ghost use Rattle.request_lines.specs.Letters.{letters_left, IsFurther};
+ghost use Rattle.request_lines.specs.proving.Letters.{letters_left, IsFurther};
 
 use line_forms::LineFault;
 use line_tokens::{Token, next_token};

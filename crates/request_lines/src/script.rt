@@ -1,8 +1,8 @@
 //! Lines of a script, each read by what its first word says.
 
 ghost use Rattle.std.specs.Prelude.{◌≡◌, ◌∷◌, ◌++◌, [], codes};
-ghost use Rattle.request_lines.specs.Judging.{line_kind, a_name, a_number, a_count, a_line, select_goals};
-ghost use Rattle.request_lines.specs.Reads.{ReadsAll, IsBehindKeyword, IsLineRead};
+ghost use Rattle.request_lines.specs.proving.Judging.{line_kind, a_name, a_number, a_count, a_line, select_goals};
+ghost use Rattle.request_lines.specs.proving.Reads.{ReadsAll, IsBehindKeyword, IsLineRead};
 
 use crate::marks::{end, is};
 use crate::names::read_name;

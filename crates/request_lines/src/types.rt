@@ -2,8 +2,8 @@
 
 ghost use Rattle.std.specs.Prelude.{◌∷◌, []};
 ghost use Rattle.type_names.specs.declared.goal.Goal.TheVariants.{AnyType};
-ghost use Rattle.request_lines.specs.Judging.{in_type};
-ghost use Rattle.request_lines.specs.Reads.{Skips, IsType};
+ghost use Rattle.request_lines.specs.proving.Judging.{in_type};
+ghost use Rattle.request_lines.specs.proving.Reads.{Skips, IsType};
 
 use crate::rest::Rest;
 use line_forms::LineFault;

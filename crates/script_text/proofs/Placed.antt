@@ -7,7 +7,7 @@ use Rattle.std.proofs.Math.Seq.{take-append-add}
 use Rattle.std.proofs.lemmas.Grind.{common_steps}
 use Rattle.tsv_text.specs.Lines.{lines_of}
 use Rattle.script_text.specs.Lines.{TextLine, end_of, first_of, lines_at, place_behind, placed, Rows, rows_behind, rows_in}
-use Rattle.script_text.specs.Placing.{IsBehindRows}
+use Rattle.script_text.specs.proving.Placing.{IsBehindRows}
 use Rattle.line_reader.proofs.Lines.{lines_of-nil}
 use Rattle.script_text.proofs.Cuts.{IsCut, cut}
 

@@ -13,7 +13,7 @@ use Rattle.script_text.specs.Forms.{IsFormIn, SpellsLineIn}
 use Rattle.script_text.specs.Lines.{TextLine, first_of, is_blank, lines_at}
 use Rattle.script_text.specs.Scripts.{Script, has_items, of_table}
 use Rattle.script_text.specs.Steps.{ComesTo, ended, refused, goes_on}
-use Rattle.script_text.specs.Taking.{IsAdded, IsJudgedAt, ReadsOn, Steps}
+use Rattle.script_text.specs.proving.Taking.{IsAdded, IsJudgedAt, ReadsOn, Steps}
 use Rattle.script_text.specs.declared.script.Script as code
 use Rattle.script_text.specs.declared.script.Session.{Session}
 use Rattle.script_text.specs.declared.steps.Step.{Step}

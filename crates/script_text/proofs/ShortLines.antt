@@ -6,7 +6,7 @@ use Rattle.line_forms.specs.ScriptLines.{LineText, view, session, insert, load, 
 use Rattle.line_forms.specs.Selects.{call_signs, group_signs}
 use Rattle.request_text.proofs.ShortLines.{calls_few, few_signs}
 use Rattle.script_text.specs.Forms.{SpellsLineIn}
-use Rattle.script_text.specs.Taking.{IsFewLine}
+use Rattle.script_text.specs.proving.Taking.{IsFewLine}
 
 text_few : (text : LineText) (form : Line) → IsLineOf text form → length (line_signs text) < 2 ^ 32 → IsFewLine form
 text_few (view name q) (View n w) h few =

@@ -17,7 +17,7 @@ use Rattle.script_text.specs.Lines.{Rows, TextLine, lines_at}
 use Rattle.script_text.specs.Scripts as script
 use Rattle.script_text.specs.Scripts.{Script, to_last, with_statement}
 use Rattle.script_text.specs.Steps.{line_added, row_count, rows_taken}
-use Rattle.script_text.specs.Taking.{IsAdded, Steps, alone}
+use Rattle.script_text.specs.proving.Taking.{IsAdded, Steps, alone}
 use Rattle.script_text.specs.declared.script.Lines as code_lines
 use Rattle.script_text.specs.declared.script.Script as code
 use Rattle.script_text.specs.declared.script.Session.{Session}

@@ -1,6 +1,6 @@
 //! The lines of a text by their places.
 ghost use Rattle.script_text.specs.Lines.{first_of, is_blank, lines_at};
-ghost use Rattle.script_text.specs.Placing.{IsBehindRows};
+ghost use Rattle.script_text.specs.proving.Placing.{IsBehindRows};
 ghost use Rattle.std.specs.List.{list_all};
 ghost use Rattle.std.specs.Prelude.{◌≡◌, ◌==◌, ◌∷◌, ◌<◌, ◌≤◌, ◌^◌, drop, length};
 

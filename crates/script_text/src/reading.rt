@@ -2,7 +2,7 @@
 ghost use Rattle.request_rules.specs.Views.{schema_of};
 ghost use Rattle.script_text.specs.Answers.{AreSessions, AreViews, IsScriptAnswer, script_of};
 ghost use Rattle.script_text.specs.Scripts.{of_table};
-ghost use Rattle.script_text.specs.Taking.{IsJudgedAt, ReadsOn, Steps};
+ghost use Rattle.script_text.specs.proving.Taking.{IsJudgedAt, ReadsOn, Steps};
 ghost use Rattle.std.specs.Prelude.{◌≡◌, ◌≤◌, ◌<◌, ◌^◌, ℕ, List, length, IfOk};
 
 use crate::forms::read_form;

@@ -7,7 +7,7 @@ ghost use Rattle.script_text.specs.Answers.{AreSessions, AreViews, AreWithin, Is
 ghost use Rattle.script_text.specs.Lines.{lines_at};
 ghost use Rattle.script_text.specs.Scripts.{with_statement};
 ghost use Rattle.script_text.specs.Steps as rules;
-ghost use Rattle.script_text.specs.Taking.{IsAdded, IsFewLine, IsTaken, Steps, alone};
+ghost use Rattle.script_text.specs.proving.Taking.{IsAdded, IsFewLine, IsTaken, Steps, alone};
 ghost use Rattle.std.specs.Prelude.{◌≡◌, ◌≤◌, ◌<◌, ◌^◌, ℕ, List, length, IfOk};
 
 use crate::placing::place_behind;

@@ -1,6 +1,6 @@
 -- Tests on the numbers below another.
 use Rattle.std.proofs.Common.{◌≡◌, ℕ, zero, suc, ◌<◌, Bool, true, false, ◌&&◌, ◌||◌, refl, ap, ap₂, ◌∙◌, arith}
-use Rattle.sequence_pattern.specs.Hits.{any_below}
+use Rattle.sequence_pattern.specs.proving.Hits.{any_below}
 
 pub any_below-same : (n : ℕ) (f g : ℕ → Bool) → ((q : ℕ) → q < n → f q ≡ g q) → any_below n f ≡ any_below n g
 any_below-same zero f g h = refl

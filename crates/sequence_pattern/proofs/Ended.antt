@@ -4,8 +4,8 @@ use Rattle.std.specs.Prelude.{is_some}
 use Rattle.agg_terms.specs.Chains.{PatItem, PatLink}
 use Rattle.agg_terms.specs.Values.{Event}
 use Rattle.sequence_pattern.specs.declared.front.Front.{Front}
-use Rattle.sequence_pattern.specs.Hits.{any_below, hit}
-use Rattle.sequence_pattern.specs.Fronts.{seen_with, seen_below, time_at, AreFronts, next_place}
+use Rattle.sequence_pattern.specs.proving.Hits.{any_below, hit}
+use Rattle.sequence_pattern.specs.proving.Fronts.{seen_with, seen_below, time_at, AreFronts, next_place}
 
 abbrev blank : Front
 blank = record { next = 0; seen = None }

@@ -6,7 +6,7 @@ use Rattle.agg_terms.specs.Chains.{Any, Next, PatItem, PatLink, Pattern}
 use Rattle.agg_terms.specs.Values.{Event}
 use Rattle.agg_terms.specs.Lists.{numbered, some}
 use Rattle.agg_meaning.specs.Events.{sublists, meets, linked, meet_items, meet_links, is_match, is_matched}
-use Rattle.sequence_pattern.specs.Hits.{any_below, spot, next_hits, hit}
+use Rattle.sequence_pattern.specs.proving.Hits.{any_below, spot, next_hits, hit}
 use Rattle.sequence_pattern.proofs.Below.{any_below-same, any_below-or, any_below-and, any_below-none}
 
 -- some list passes a test

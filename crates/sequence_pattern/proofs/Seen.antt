@@ -8,8 +8,8 @@ use Rattle.agg_terms.specs.Trees.{by_time}
 use Rattle.agg_terms.specs.Chains.{Above, At, AtOrAbove, Below, BelowOrAt, Gap, Next, PatLink, Time}
 use Rattle.agg_terms.specs.Values.{Event}
 use Rattle.sequence_pattern.specs.declared.front.Seen.{Seen}
-use Rattle.sequence_pattern.specs.Hits.{any_below, goes_on}
-use Rattle.sequence_pattern.specs.Fronts.{time_at, seen_with, seen_below, allowed, allowed_after, comes_first}
+use Rattle.sequence_pattern.specs.proving.Hits.{any_below, goes_on}
+use Rattle.sequence_pattern.specs.proving.Fronts.{time_at, seen_with, seen_below, allowed, allowed_after, comes_first}
 use Rattle.sequence_pattern.proofs.Below.{any_below-none}
 
 -- times don't fall

@@ -10,8 +10,8 @@ use Rattle.agg_terms.specs.Values.{Event}
 use Rattle.agg_meaning.specs.Events.{linked, meets}
 use Rattle.sequence_pattern.specs.declared.front.Front.{Front}
 use Rattle.sequence_pattern.specs.declared.front.Seen.{Seen}
-use Rattle.sequence_pattern.specs.Hits.{any_below, spot, goes_on, hit}
-use Rattle.sequence_pattern.specs.Fronts.{time_at, seen_with, seen_below, allowed, comes_first, IsBehind, AreFronts, next_place}
+use Rattle.sequence_pattern.specs.proving.Hits.{any_below, spot, goes_on, hit}
+use Rattle.sequence_pattern.specs.proving.Fronts.{time_at, seen_with, seen_below, allowed, comes_first, IsBehind, AreFronts, next_place}
 use Rattle.sequence_pattern.proofs.Seen.{Rises, allowed-below}
 
 -- a place that comes first lies before

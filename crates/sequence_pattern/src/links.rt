@@ -2,7 +2,7 @@
 ghost use Rattle.std.specs.Prelude.{◌≡◌, ◌<◌, ◌-◌, length, map};
 ghost use Rattle.agg_meaning.specs.Events.{is_in, meets};
 ghost use Rattle.value_types.specs.Folds.{event_of, item_of, link_of};
-ghost use Rattle.sequence_pattern.specs.Fronts.{allowed, allowed_after, comes_first, seen_with, time_at};
+ghost use Rattle.sequence_pattern.specs.proving.Fronts.{allowed, allowed_after, comes_first, seen_with, time_at};
 
 use crate::front::Seen;
 use value_types::{Event, Op, PatItem, PatLink};

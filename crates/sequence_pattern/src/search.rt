@@ -4,8 +4,8 @@ ghost use Rattle.agg_terms.specs.Lists.{NotFalling};
 ghost use Rattle.agg_terms.specs.Trees.{by_time};
 ghost use Rattle.value_types.specs.Folds.{event_of, item_of, link_of, pattern_of};
 ghost use Rattle.agg_meaning.specs.Events.{is_matched};
-ghost use Rattle.sequence_pattern.specs.Fronts.{AreFronts, next_place};
-ghost use Rattle.sequence_pattern.specs.Hits.{any_below, hit};
+ghost use Rattle.sequence_pattern.specs.proving.Fronts.{AreFronts, next_place};
+ghost use Rattle.sequence_pattern.specs.proving.Hits.{any_below, hit};
 
 use crate::front::Front;
 use crate::links::{is_allowed, is_first, meets_item, with_hit};

@@ -9,7 +9,7 @@ use Rattle.value_types.specs.declared.value.Value.TheVariants as value
 use Rattle.value_types.specs.declared.value.Tree.{Tree}
 use Rattle.value_types.specs.Folds.{value_of}
 use Rattle.value_types.proofs.FoldLaws as folds
-use Rattle.set_leaves.specs.Hashes.{all_writes, entry_writes, value_writes}
+use Rattle.set_leaves.specs.proving.Hashes.{all_writes, entry_writes, value_writes}
 use Rattle.set_leaves.specs.Tuples.{pair_of}
 
 pub writes_Num : (v : Value) (n : ℤ) → v ≡ value.Num n → value_writes (value_of v) ≡ fed.i128 n

@@ -14,7 +14,7 @@ use Rattle.agg_terms.specs.Values.{Value}
 use Rattle.agg_terms.proofs.Comparing.{rows_order}
 use Rattle.agg_terms.proofs.Sorting.{itself}
 use Rattle.agg_meaning.proofs.LeafTrees.{different_rising}
-use Rattle.set_leaves.specs.Orders.{rows_full}
+use Rattle.set_leaves.specs.proving.Orders.{rows_full}
 use Rattle.set_leaves.specs.Tuples.{SameSet, text_tuple}
 use Rattle.set_leaves.proofs.SetLaws.{length-different, set_last, set_same, set_there, sets_join}
 

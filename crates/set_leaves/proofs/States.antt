@@ -18,7 +18,7 @@ use Rattle.value_types.specs.Folds.{value_of}
 use Rattle.value_types.specs.declared.value.Value as coded
 use Rattle.typed_columns.specs.Items.{item_value}
 use Rattle.typed_columns.specs.declared.item.Item.{Item}
-use Rattle.set_leaves.specs.Orders.{rows_full}
+use Rattle.set_leaves.specs.proving.Orders.{rows_full}
 use Rattle.set_leaves.specs.Sets.{set_held}
 use Rattle.set_leaves.specs.Tuples.{SameSet, argument}
 use Rattle.set_leaves.proofs.SetLaws.{is_empty-different, sets_join}

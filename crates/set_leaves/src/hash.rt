@@ -2,7 +2,7 @@
 ghost use Rattle.std.specs.Prelude.{◌≡◌, map, fold};
 ghost use Rattle.agg_terms.specs.Values as family;
 ghost use Rattle.value_types.specs.Folds.{value_of};
-ghost use Rattle.set_leaves.specs.Hashes.{all_writes, entry_writes, value_writes};
+ghost use Rattle.set_leaves.specs.proving.Hashes.{all_writes, entry_writes, value_writes};
 ghost use Rattle.set_leaves.specs.Tuples.{pair_of};
 
 use std::hash::Hasher;

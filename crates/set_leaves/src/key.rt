@@ -4,7 +4,7 @@ ghost use Rattle.agg_terms.specs.Order.{compare_rows};
 ghost use Rattle.agg_terms.specs.Values as family;
 ghost use Rattle.value_types.specs.Folds.{value_of};
 ghost use Rattle.set_leaves.specs.Tuples.{number_tuple, text_tuple};
-ghost use Rattle.set_leaves.specs.Orders.{number_ranks, text_ranks};
+ghost use Rattle.set_leaves.specs.proving.Orders.{number_ranks, text_ranks};
 
 use std::alloc::Global;
 use std::hash::Hash;

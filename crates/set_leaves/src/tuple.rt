@@ -4,9 +4,9 @@ ghost use Rattle.std.specs.Cmp.{on_equiv, on_per, on_po, on_total};
 ghost use Rattle.std.specs.Ordering.{eq_by_cmp};
 ghost use Rattle.std.proofs.Common.{ap, refl};
 ghost use Rattle.agg_terms.specs.Values as family;
-ghost use Rattle.set_leaves.specs.Hashes.{all_writes};
+ghost use Rattle.set_leaves.specs.proving.Hashes.{all_writes};
 ghost use Rattle.set_leaves.specs.Tuples.{values_cmp, values_tuple};
-ghost use Rattle.set_leaves.specs.Orders.{values_alike, values_equal, values_ordered, values_same, values_total};
+ghost use Rattle.set_leaves.specs.proving.Orders.{values_alike, values_equal, values_ordered, values_same, values_total};
 
 use crate::hash::hash_values;
 use crate::key::Key;

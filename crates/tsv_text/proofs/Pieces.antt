@@ -5,7 +5,7 @@ use Rattle.std.proofs.lemmas.Bool.{eqb-true}
 use Rattle.tsv_text.specs.declared.fault.TextFault.{TextFault}
 use Rattle.tsv_text.specs.declared.fault.TextFault.TheVariants.{LoneBackslash, BadHex, OutOfMemory}
 use Rattle.tsv_text.specs.Escapes.{Piece, plain, letter, hexed, piece_text, piece_byte, IsPiece, ArePieces, pieces_then, pieces_bytes, is_hex_digit, hex_value, meaning_of, begins_with_hex, IsUnescaped}
-use Rattle.tsv_text.specs.Behind.{behind_x, behind_backslash, is_backslash}
+use Rattle.tsv_text.specs.proving.Behind.{behind_x, behind_backslash, is_backslash}
 use Rattle.tsv_text.proofs.First.{Fails, first_found, all_fail}
 
 -- what was read so far is pieces

@@ -3,7 +3,7 @@
 ghost use Rattle.std.specs.Prelude.{◌≡◌, IsTrue, ◌<◌, ◌+◌, ◌*◌, ◌&&◌, ℕ, List, Result, length, position};
 ghost use Rattle.tsv_text.specs.declared.fault.TextFault.{TextFault};
 ghost use Rattle.tsv_text.specs.Escapes.{is_hex_digit, hex_value, meaning_of, seen, IsUnescaped, IsSameAnswer};
-ghost use Rattle.tsv_text.specs.Behind.{behind_x, behind_backslash, is_backslash};
+ghost use Rattle.tsv_text.specs.proving.Behind.{behind_x, behind_backslash, is_backslash};
 
 use crate::fault::TextFault;
 use std::alloc::Global;

@@ -17,7 +17,7 @@ use Rattle.scalar_texts.specs.Numbers.{number_value}
 use Rattle.scalar_texts.specs.States.{ReadsStates}
 use Rattle.scalar_texts.specs.declared.fault.FieldFault.{FieldFault}
 use Rattle.tsv_values.specs.Elements.{ElementSays, EntrySays, MoreSay, OpenedSay, Quotes, Said, Spaced, all_of, onto, ranged}
-use Rattle.tsv_values.specs.Reading.{behind_quote}
+use Rattle.tsv_values.specs.proving.Reading.{behind_quote}
 use Rattle.tsv_values.specs.ReadBack.{EachState, HasWidth, IsReadBack}
 use Rattle.tsv_values.specs.Writing.{WritesStates, commas, element_text, entry_text, in_quotes}
 use Rattle.tsv_values.proofs.Closing.{inside-append, pieces_fit}

@@ -5,7 +5,7 @@ use Rattle.std.proofs.lemmas.Bool.{and_parts, eqb-true, eqb-false, leb-true, or_
 use Rattle.std.proofs.lemmas.Bool.Decides.{eqb_tells, nat_tests}
 use Rattle.tsv_text.specs.Escapes.{Piece, plain, letter, hexed, piece_text, pieces_then, ArePieces, is_hex_digit}
 use Rattle.field_texts.specs.Syntax.{AllFitInQuotes, IsHex, closed_text}
-use Rattle.tsv_values.specs.Reading.{behind_quote, is_special}
+use Rattle.tsv_values.specs.proving.Reading.{behind_quote, is_special}
 use Rattle.tsv_values.proofs.First.{Fails, all_fail, first_found}
 
 -- ---- the search for the quote

@@ -18,8 +18,8 @@ use Rattle.tsv_values.specs.declared.found.Found.{Found}
 use Rattle.tsv_values.specs.declared.found.Missing.{Missing}
 use Rattle.tsv_values.specs.declared.found.Missing.TheVariants.{Nothing}
 use Rattle.tsv_values.specs.Elements.{ArraySays, Behind, ElementSays, EntrySays, ListSays, MapSays, NumberSays, QuotedSays, Said, array_of, map_of}
-use Rattle.tsv_values.specs.Reading.{IsAhead, IsElementRead, IsFound, IsMissing, null_ahead}
-use Rattle.tsv_values.specs.Steps.{behind_byte}
+use Rattle.tsv_values.specs.proving.Reading.{IsAhead, IsElementRead, IsFound, IsMissing, null_ahead}
+use Rattle.tsv_values.specs.proving.Steps.{behind_byte}
 use Rattle.tsv_values.proofs.Fronts.{missing_by}
 
 -- ---- a byte before it

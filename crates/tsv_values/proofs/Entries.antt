@@ -8,8 +8,8 @@ use Rattle.scalar_texts.specs.declared.fault.FieldFault.{FieldFault}
 use Rattle.tsv_values.specs.declared.found.Missing.{Missing}
 use Rattle.tsv_values.specs.declared.found.Missing.TheVariants.{Nothing}
 use Rattle.tsv_values.specs.Elements.{EntrySays, Said, Spaced, entry_of}
-use Rattle.tsv_values.specs.Reading.{Ends, IsAhead, IsFound, IsMissing}
-use Rattle.tsv_values.specs.Steps.{after_spaces, colon_step}
+use Rattle.tsv_values.specs.proving.Reading.{Ends, IsAhead, IsFound, IsMissing}
+use Rattle.tsv_values.specs.proving.Steps.{after_spaces, colon_step}
 use Rattle.tsv_values.proofs.Fronts.{missing_by}
 use Rattle.tsv_values.proofs.Lists.{AllBegin, begins_starts, token_ends}
 use Rattle.tsv_values.proofs.Spaces.{ahead_spaced, ahead_token, spaced_ahead, then_ahead, token_ahead}

@@ -4,7 +4,7 @@ use Rattle.scalar_texts.specs.declared.fault.FieldFault.{FieldFault}
 use Rattle.scalar_texts.specs.declared.fault.FieldFault.TheVariants.{NotNumber, OutOfRange, Text, BadArray, BadMap, NotNullable, NotHex, BadState, OutOfMemory}
 use Rattle.tsv_values.specs.declared.found.Missing.{Missing}
 use Rattle.tsv_values.specs.declared.found.Missing.TheVariants.{Nothing, Refused}
-use Rattle.tsv_values.specs.Reading.{IsAhead, IsMissing}
+use Rattle.tsv_values.specs.proving.Reading.{IsAhead, IsMissing}
 
 -- where each that may be seen here is refused as one there is
 pub missing_by : {X Y : Type 0} (says : Result X FieldFault → List ℕ → Type 0) (text : List ℕ) (tells : Result Y FieldFault → List ℕ → Type 0) (line : List ℕ)

@@ -7,8 +7,8 @@ use Rattle.scalar_texts.specs.declared.fault.FieldFault.{FieldFault}
 use Rattle.tsv_values.specs.declared.found.Missing.{Missing}
 use Rattle.tsv_values.specs.declared.found.Missing.TheVariants.{Nothing}
 use Rattle.tsv_values.specs.Elements.{ListSays, MoreSay, OpenedSay, Spaced, all_of}
-use Rattle.tsv_values.specs.Reading.{Ends, IsFound, IsMissing}
-use Rattle.tsv_values.specs.Steps.{Step, one_more, ends, neither, after_spaces, first_step, more_step}
+use Rattle.tsv_values.specs.proving.Reading.{Ends, IsFound, IsMissing}
+use Rattle.tsv_values.specs.proving.Steps.{Step, one_more, ends, neither, after_spaces, first_step, more_step}
 use Rattle.tsv_values.proofs.Fronts.{missing_by}
 use Rattle.tsv_values.proofs.Spaces.{Starts, ahead_spaced, ahead_token, spaced_ahead, then_ahead, token_ahead}
 

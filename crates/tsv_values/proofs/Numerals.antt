@@ -13,7 +13,7 @@ use Rattle.scalar_texts.specs.Answer.{IsNumericAnswer}
 use Rattle.scalar_texts.specs.declared.fault.FieldFault.{FieldFault}
 use Rattle.scalar_texts.specs.declared.fault.FieldFault.TheVariants.{NotNumber, OutOfMemory, OutOfRange}
 use Rattle.tsv_values.specs.Elements.{NumberSays, Said, ranged}
-use Rattle.tsv_values.specs.Reading.{Ends, IsAhead, IsFound, IsMissing, IsNumberCut, is_numeric, is_other, missing_of}
+use Rattle.tsv_values.specs.proving.Reading.{Ends, IsAhead, IsFound, IsMissing, IsNumberCut, is_numeric, is_other, missing_of}
 
 -- ---- where the cut is
 

@@ -17,7 +17,7 @@ use Rattle.scalar_texts.specs.declared.fault.FieldFault.{FieldFault}
 use Rattle.scalar_texts.specs.declared.fault.FieldFault.TheVariants.{NotNumber, OutOfRange, Text, BadArray, BadMap, NotNullable, NotHex, BadState, OutOfMemory}
 use Rattle.tsv_values.specs.declared.found.Missing.TheVariants.{Nothing, Refused}
 use Rattle.tsv_values.specs.Elements.{QuotedSays, Said}
-use Rattle.tsv_values.specs.Reading.{IsAhead, IsFound, IsMissing, IsQuoteCut, IsQuotedCut, behind_quote, escape_missing, missing_of}
+use Rattle.tsv_values.specs.proving.Reading.{IsAhead, IsFound, IsMissing, IsQuoteCut, IsQuotedCut, behind_quote, escape_missing, missing_of}
 use Rattle.tsv_values.proofs.Closing.{behind_pieces, closed-append, fit_pieces, inside-append, pieces_fit}
 use Rattle.tsv_values.proofs.Fronts.{refused_by}
 

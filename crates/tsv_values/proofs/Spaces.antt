@@ -3,7 +3,7 @@ use Rattle.std.proofs.Common.{◌≡◌, ℕ, ◌≤◌, Bool, true, false, List
 use Rattle.std.proofs.lemmas.Bool.{eqb-true}
 use Rattle.first_fault.specs.Grammar.{Then}
 use Rattle.field_texts.specs.Syntax.{IsSpaces, Token}
-use Rattle.tsv_values.specs.Steps.{after_spaces}
+use Rattle.tsv_values.specs.proving.Steps.{after_spaces}
 
 -- no space begins the text
 abbrev pub Starts : List ℕ → Type 0

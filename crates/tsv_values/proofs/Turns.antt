@@ -8,8 +8,8 @@ use Rattle.tsv_values.specs.declared.found.Missing.TheVariants.{Nothing}
 use Rattle.tsv_values.specs.declared.next.Next.{Next}
 use Rattle.tsv_values.specs.declared.next.Next.TheVariants as next
 use Rattle.tsv_values.specs.Elements.{ListSays}
-use Rattle.tsv_values.specs.Reading.{IsFound, IsMissing}
-use Rattle.tsv_values.specs.Steps.{Step, one_more, ends, neither, after_spaces, first_step, more_step, step_of}
+use Rattle.tsv_values.specs.proving.Reading.{IsFound, IsMissing}
+use Rattle.tsv_values.specs.proving.Steps.{Step, one_more, ends, neither, after_spaces, first_step, more_step, step_of}
 use Rattle.tsv_values.proofs.Lists.{AllBegin, IsClosing, IsSoFar, begun, ended, gone_on, not_ended, stopped}
 use Rattle.tsv_values.proofs.Spaces.{skipped}
 

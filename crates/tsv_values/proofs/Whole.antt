@@ -10,8 +10,8 @@ use Rattle.tsv_values.specs.declared.found.Missing.{Missing}
 use Rattle.tsv_values.specs.declared.found.Missing.TheVariants.{Nothing, Refused}
 use Rattle.tsv_values.specs.Answer.{IsTold}
 use Rattle.tsv_values.specs.Elements.{ElementSays, FieldSays, Said}
-use Rattle.tsv_values.specs.Reading.{Ends, IsAhead, IsFound, IsMissing, IsWholeRead}
-use Rattle.tsv_values.specs.Steps.{after_spaces}
+use Rattle.tsv_values.specs.proving.Reading.{Ends, IsAhead, IsFound, IsMissing, IsWholeRead}
+use Rattle.tsv_values.specs.proving.Steps.{after_spaces}
 use Rattle.tsv_values.proofs.Beginnings.{element_begins}
 use Rattle.tsv_values.proofs.Lists.{begins_starts}
 use Rattle.tsv_values.proofs.Spaces.{ahead_spaced, all_spaces, only_spaces, spaced_ahead}

@@ -9,7 +9,7 @@ ghost use Rattle.scalar_texts.specs.Numbers.{HasRange};
 ghost use Rattle.scalar_texts.specs.States.{ReadsStates};
 ghost use Rattle.value_types.specs.Folds.{ty_of, value_of};
 ghost use Rattle.tsv_values.specs.Elements.{ElementSays, QuotedSays};
-ghost use Rattle.tsv_values.specs.Reading.{IsElementRead, IsQuotedCut, null_ahead};
+ghost use Rattle.tsv_values.specs.proving.Reading.{IsElementRead, IsQuotedCut, null_ahead};
 
 use crate::found::{Found, Missing, escape_missing, missing_of};
 use crate::quotes::{cut_at_quote, cut_number};

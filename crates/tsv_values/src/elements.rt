@@ -6,7 +6,7 @@ ghost use Rattle.value_types.specs.Folds.{ty_of, value_of};
 ghost use Rattle.agg_terms.specs.Chains as terms;
 ghost use Rattle.tsv_values.specs.Answer.{KeysArePlain};
 ghost use Rattle.tsv_values.specs.Elements.{ArraySays, ElementSays, EntrySays, MapSays};
-ghost use Rattle.tsv_values.specs.Reading.{IsElementRead, IsEntryRead};
+ghost use Rattle.tsv_values.specs.proving.Reading.{IsElementRead, IsEntryRead};
 
 use crate::atoms::{behind_null, number, state, string};
 use crate::found::{Entry, Found, Missing};

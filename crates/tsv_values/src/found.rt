@@ -2,7 +2,7 @@
 ghost use Rattle.std.specs.Prelude.{◌≡◌};
 ghost use Rattle.scalar_texts.specs.declared.fault.FieldFault.TheVariants.{OutOfMemory};
 ghost use Rattle.tsv_values.specs.declared.found.Missing.TheVariants.{Refused};
-ghost use Rattle.tsv_values.specs.Reading.{escape_missing, missing_of};
+ghost use Rattle.tsv_values.specs.proving.Reading.{escape_missing, missing_of};
 
 use scalar_texts::FieldFault;
 use tsv_text::TextFault;

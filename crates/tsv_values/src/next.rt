@@ -1,7 +1,7 @@
 //! The marks between the elements of an array and the entries of a map, with spaces before them.
 ghost use Rattle.std.specs.Prelude.{◌≡◌};
 ghost use Rattle.std.specs.Option.{option_map};
-ghost use Rattle.tsv_values.specs.Steps.{after_spaces, behind_byte, colon_step, first_step, more_step, step_of};
+ghost use Rattle.tsv_values.specs.proving.Steps.{after_spaces, behind_byte, colon_step, first_step, more_step, step_of};
 
 /// What follows.
 #[derive(Clone, Copy)]

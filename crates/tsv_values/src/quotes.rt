@@ -1,7 +1,7 @@
 //! Texts in quotes and texts of numbers, cut off the front of a text.
 ghost use Rattle.std.specs.Prelude.{◌≡◌, position, false};
 ghost use Rattle.std.specs.Option.{option_map};
-ghost use Rattle.tsv_values.specs.Reading.{behind_quote, is_numeric, is_other, is_special, IsNumberCut, IsQuoteCut};
+ghost use Rattle.tsv_values.specs.proving.Reading.{behind_quote, is_numeric, is_other, is_special, IsNumberCut, IsQuoteCut};
 
 fn special(text: &[u8]) -> Option<usize>
     ensures { result ≡ position is_special text.now }

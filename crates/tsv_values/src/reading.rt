@@ -5,7 +5,7 @@ ghost use Rattle.scalar_texts.specs.States.{AllStates};
 ghost use Rattle.value_types.specs.Folds.{ty_of, value_of};
 ghost use Rattle.tsv_values.specs.Answer.{IsFieldAnswer, IsFilledAnswer, KeysArePlain};
 ghost use Rattle.tsv_values.specs.Elements.{FieldSays};
-ghost use Rattle.tsv_values.specs.Reading.{IsNestedAnswer, IsWholeRead};
+ghost use Rattle.tsv_values.specs.proving.Reading.{IsNestedAnswer, IsWholeRead};
 
 use crate::elements::read_element;
 use crate::found::{Found, Missing, Refusal};

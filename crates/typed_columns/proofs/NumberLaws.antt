@@ -12,7 +12,7 @@ use Rattle.column_parts.specs.declared.number_type.NumberType.{NumberType}
 use Rattle.column_parts.specs.declared.number_type.NumberType.TheVariants as number
 use Rattle.column_parts.specs.NumberLists.{NumberList}
 use Rattle.typed_columns.specs.TypedValues.{TypedValues}
-use Rattle.typed_columns.specs.NumberTypes.{number_of, number_layer}
+use Rattle.typed_columns.specs.proving.NumberTypes.{number_of, number_layer}
 use Rattle.typed_columns.specs.Views.{number_ty, view_of}
 use Rattle.typed_columns.specs.declared.column.Kind.{Kind}
 use Rattle.typed_columns.specs.declared.column.Kind.TheVariants as kind

@@ -1,8 +1,8 @@
 pub mod TypedValues
 pub mod Masks
 pub mod Height
-pub mod NumberTypes
 pub mod Views
 pub mod Falls
 pub mod Items
 pub mod Growth
+pub mod proving

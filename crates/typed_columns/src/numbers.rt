@@ -2,7 +2,7 @@
 ghost use Rattle.std.specs.Prelude.{◌≡◌, ◌↔◌, map, pos, IfNone, IfSome, IsSome, None};
 ghost use Rattle.value_types.specs.declared.ty.Ty.TheVariants as ty;
 ghost use Rattle.value_types.specs.declared.value.Value.TheVariants.{Num};
-ghost use Rattle.typed_columns.specs.NumberTypes.{number_of};
+ghost use Rattle.typed_columns.specs.proving.NumberTypes.{number_of};
 ghost use Rattle.typed_columns.specs.Views.{number_ty};
 
 use crate::Column;

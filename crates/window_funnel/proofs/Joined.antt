@@ -11,7 +11,7 @@ use Rattle.agg_terms.specs.Lists.{Each, NotFalling}
 use Rattle.agg_terms.specs.Trees.{by_time}
 use Rattle.std.specs.Ordering.{is_le, nat_cmp}
 use Rattle.agg_meaning.specs.Events.{is_in, funnel_level}
-use Rattle.window_funnel.specs.Starts.{longest, with_event}
+use Rattle.window_funnel.specs.proving.Starts.{longest, with_event}
 use Rattle.window_funnel.proofs.Reaches.{after, reach, level-begun}
 use Rattle.window_funnel.proofs.Tables.{reaches, gains, best, AllFrom, best-event, best-least, best-table}
 

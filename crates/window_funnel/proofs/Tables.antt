@@ -5,7 +5,7 @@ use Rattle.std.proofs.lemmas.Bool.{cases_lt}
 use Rattle.std.proofs.lemmas.Bool.Decides.{nat_tests}
 use Rattle.agg_terms.specs.Values.{Event}
 use Rattle.agg_meaning.specs.Events.{is_in}
-use Rattle.window_funnel.specs.Starts.{later, lengthened, with_event}
+use Rattle.window_funnel.specs.proving.Starts.{later, lengthened, with_event}
 use Rattle.window_funnel.proofs.Reaches.{after, goes_on, reach, begun}
 
 -- the greatest length that the chains of a table come to, lengths from i on

@@ -2,7 +2,7 @@
 //! so one first time a length is all that the events so far say of those to come.
 ghost use Rattle.std.specs.Prelude.{◌≡◌, ◌≤◌, ◌<◌, Some, length};
 ghost use Rattle.value_types.specs.Folds.{event_of};
-ghost use Rattle.window_funnel.specs.Starts.{later, lengthened, longest, with_event};
+ghost use Rattle.window_funnel.specs.proving.Starts.{later, lengthened, longest, with_event};
 
 use value_types::Event;
 

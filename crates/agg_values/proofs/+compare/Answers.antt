@@ -1,6 +1,6 @@
 use Rattle.std.proofs.Common.{◌≡◌, ◌∙◌, ap₂, arith, rules}
 use Rattle.std.specs.Cmp.Lexicographic.{slice_cmp}
-use Rattle.agg_values.specs.Comparing.{keyed_cmp, pair_cmp, tree_cmp, value_cmp}
+use Rattle.agg_values.specs.proving.Comparing.{keyed_cmp, pair_cmp, tree_cmp, value_cmp}
 use Rattle.agg_values.proofs.Compared.{differs, ends}
 use Rattle.agg_values.proofs.+compare.Goals as goal
 

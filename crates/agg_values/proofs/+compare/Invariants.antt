@@ -1,6 +1,6 @@
 use Rattle.std.proofs.Common.{◌≡◌, drop}
 use Rattle.std.specs.Cmp.Lexicographic.{slice_cmp}
-use Rattle.agg_values.specs.Comparing.{keyed_cmp, pair_cmp, tree_cmp, value_cmp}
+use Rattle.agg_values.specs.proving.Comparing.{keyed_cmp, pair_cmp, tree_cmp, value_cmp}
 use Rattle.agg_values.proofs.+compare.Given as goal
 
 -- what is left decides

@@ -1,6 +1,6 @@
 use Rattle.std.proofs.Common.{◌≡◌, map, take}
 use Rattle.value_types.specs.Folds.{ty_of}
-use Rattle.agg_defs.specs.Reached.{types_of}
+use Rattle.agg_defs.specs.proving.Reached.{types_of}
 use Rattle.agg_defs.proofs.reached.all_reached.Given as goal
 
 abbrev pub invariant-loop-ty : goal.invariant-loop-ty

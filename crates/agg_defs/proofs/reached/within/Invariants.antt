@@ -1,5 +1,5 @@
 use Rattle.std.proofs.Common.{◌≡◌, map, take}
-use Rattle.agg_defs.specs.Reached.{types_of, part_of}
+use Rattle.agg_defs.specs.proving.Reached.{types_of, part_of}
 use Rattle.agg_defs.proofs.reached.within.Given as goal
 
 abbrev pub invariant-loop-arg : goal.invariant-loop-arg

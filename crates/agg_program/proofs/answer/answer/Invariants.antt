@@ -1,5 +1,5 @@
 use Rattle.std.proofs.Common.{◌≡◌, ◌++◌, drop, map}
-use Rattle.agg_program.specs.Columns.{columns_line}
+use Rattle.agg_program.specs.proving.Columns.{columns_line}
 use Rattle.agg_program.proofs.answer.answer.Given as goal
 
 abbrev pub invariant-loop-i : goal.invariant-loop-i

@@ -1,7 +1,7 @@
 use Rattle.std.proofs.Common.{◌≡◌, ◌+◌, ◌≤◌, length, map, vec_len, vec_capacity, List, ℕ}
 use Rattle.tsv_text.specs.Lines.{lines_of}
 use Rattle.agg_program.specs.Rows.{rows_from}
-use Rattle.agg_program.specs.Columns.{HoldRows}
+use Rattle.agg_program.specs.proving.Columns.{HoldRows}
 use Rattle.agg_program.proofs.Readings.{with_front}
 use Rattle.agg_program.proofs.rows.read_rows.Given as goal
 

@@ -4,7 +4,7 @@ use Rattle.std.specs.List.{list_all}
 use Rattle.agg_terms.specs.Order.{compare_rows}
 use Rattle.agg_terms.specs.Fitting.{fits_row, is_rising}
 use Rattle.value_types.specs.Folds.{value_of}
-use Rattle.agg_values.specs.Peels.{types_of}
+use Rattle.agg_values.specs.proving.Peels.{types_of}
 use Rattle.agg_values.proofs.Images.{rows_at}
 use Rattle.agg_values.proofs.leaf_trees.is_set.Goals as goal
 

@@ -1,6 +1,6 @@
 use Rattle.std.proofs.Common.{◌≡◌, drop, length, map}
 use Rattle.agg_terms.specs.Fitting.{fits_row}
-use Rattle.agg_values.specs.Peels.{types_of}
+use Rattle.agg_values.specs.proving.Peels.{types_of}
 use Rattle.value_types.specs.Folds.{value_of}
 use Rattle.agg_values.proofs.row_fits.row_fits.Given as goal
 

@@ -1,7 +1,7 @@
 use Rattle.std.proofs.Common.{◌≡◌, drop, map}
 use Rattle.std.specs.List.{list_all}
 use Rattle.agg_terms.specs.Fitting.{fits_row}
-use Rattle.agg_values.specs.Peels.{types_of}
+use Rattle.agg_values.specs.proving.Peels.{types_of}
 use Rattle.value_types.specs.Folds.{value_of}
 use Rattle.agg_values.proofs.row_fits.rows_fit.Given as goal
 

@@ -3,7 +3,7 @@ use Rattle.std.specs.List.{list_all}
 use Rattle.std.proofs.lemmas.List.Folds.{list_all-map}
 use Rattle.agg_terms.specs.Fitting.{has_slots, is_tree}
 use Rattle.value_types.specs.Folds.{chain_of, entry_of, tree_of}
-use Rattle.agg_values.specs.Peels.{types_of}
+use Rattle.agg_values.specs.proving.Peels.{types_of}
 use Rattle.agg_values.proofs.Images.{keyed_at, slots_at}
 use Rattle.agg_values.proofs.TreeLinks.{in_resample}
 use Rattle.agg_values.proofs.trees.+trees.Goals as goal

@@ -2,7 +2,7 @@ use Rattle.std.proofs.Common.{◌≡◌, drop}
 use Rattle.std.specs.List.{list_all}
 use Rattle.agg_terms.specs.Fitting.{is_tree}
 use Rattle.value_types.specs.Folds.{chain_of, entry_of, tree_of}
-use Rattle.agg_values.specs.Peels.{types_of}
+use Rattle.agg_values.specs.proving.Peels.{types_of}
 use Rattle.agg_values.proofs.trees.+trees.Given as goal
 
 -- what is left decides

@@ -3,7 +3,7 @@ use Rattle.std.specs.List.{AllZip, HoldsAt}
 use Rattle.std.proofs.Crossing.{crosses}
 use denote.Param.Send.{sendable}
 use denote.Ref.{Bor}
-use Rattle.batch_reader.specs.Pieces.{HasPiece}
+use Rattle.batch_reader.specs.proving.Pieces.{HasPiece}
 use Rattle.batch_reader.specs.declared.lane.Lane.{Lane}
 use Rattle.batch_reader.proofs.Lanes.{zip-each, zip-types}
 use Rattle.batch_reader.proofs.Crossing.{column-send}

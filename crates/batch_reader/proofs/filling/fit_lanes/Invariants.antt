@@ -1,5 +1,5 @@
 use Rattle.std.proofs.Common.{◌≡◌, ◌≤◌, length}
-use Rattle.batch_reader.specs.Pieces.{AreOf}
+use Rattle.batch_reader.specs.proving.Pieces.{AreOf}
 use Rattle.batch_reader.proofs.filling.fit_lanes.Given as goal
 
 abbrev pub invariant-loop : goal.invariant-loop

@@ -1,6 +1,6 @@
 use Rattle.std.proofs.Common.{◌≡◌, ◌+◌, length, take}
-use Rattle.batch_reader.specs.Joining.{AreFit}
-use Rattle.batch_reader.specs.Pieces.{rows_in}
+use Rattle.batch_reader.specs.proving.Joining.{AreFit}
+use Rattle.batch_reader.specs.proving.Pieces.{rows_in}
 use Rattle.batch_reader.proofs.joining.count_all.Given as goal
 
 abbrev pub invariant-loop-lane : goal.invariant-loop-lane

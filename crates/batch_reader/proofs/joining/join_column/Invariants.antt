@@ -1,7 +1,7 @@
 use Rattle.std.proofs.Common.{◌≡◌, take}
 use Rattle.typed_columns.specs.Growth.{with_values}
 use Rattle.columns.specs.Rows.{column_at}
-use Rattle.batch_reader.specs.Pieces.{rows_in}
+use Rattle.batch_reader.specs.proving.Pieces.{rows_in}
 use Rattle.batch_reader.proofs.joining.join_column.Given as goal
 
 abbrev pub invariant-loop-i : goal.invariant-loop-i

@@ -4,7 +4,7 @@ use Rattle.std.proofs.lemmas.List.{take_at}
 use denote.Param.Send.{sendable}
 use Rattle.typed_columns.specs.TypedValues.{TypedValues}
 use Rattle.typed_columns.specs.Growth.{trim}
-use Rattle.batch_reader.specs.Pieces.{rows_in}
+use Rattle.batch_reader.specs.proving.Pieces.{rows_in}
 use Rattle.batch_reader.proofs.Joined.{each-joins, joined-each, trimmed-each, types-at}
 use Rattle.batch_reader.proofs.Crossing.{column-sync}
 use Rattle.batch_reader.proofs.joining.join_columns.Goals as goal

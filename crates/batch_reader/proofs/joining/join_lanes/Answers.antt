@@ -1,8 +1,8 @@
 use Rattle.std.proofs.Common.{◌∙◌, ap, map, subst, sym}
 use Rattle.typed_columns.specs.TypedValues.{TypedValues}
 use Rattle.columns.specs.Rows.{AreLong, AreTyped, Rows, joined, rows_of, with_rows}
-use Rattle.batch_reader.specs.Joining.{columns_of}
-use Rattle.batch_reader.specs.Pieces.{AreOf, rows_in}
+use Rattle.batch_reader.specs.proving.Joining.{columns_of}
+use Rattle.batch_reader.specs.proving.Pieces.{AreOf, rows_in}
 use Rattle.batch_reader.proofs.Joined.{are-columns, fit-in, rows-added}
 use Rattle.batch_reader.proofs.joining.join_lanes.Goals as goal
 

@@ -1,7 +1,7 @@
 use Rattle.std.proofs.Common.{◌≡◌, ◌++◌, arith, subst, sym}
 use Rattle.std.proofs.lemmas.Grind.{common_steps}
 use Rattle.tsv_text.specs.Lines.{lines_of}
-use Rattle.batch_reader.specs.Pieces.{lines_in}
+use Rattle.batch_reader.specs.proving.Pieces.{lines_in}
 use Rattle.batch_reader.proofs.Cut.{cut-done, cut-more}
 use Rattle.batch_reader.proofs.pieces.cut.Goals as goal
 

@@ -1,6 +1,6 @@
 use Rattle.std.proofs.Common.{◌≡◌, ◌++◌, length}
 use Rattle.tsv_text.specs.Lines.{lines_of}
-use Rattle.batch_reader.specs.Pieces.{lines_in}
+use Rattle.batch_reader.specs.proving.Pieces.{lines_in}
 use Rattle.batch_reader.proofs.pieces.cut.Given as goal
 
 abbrev pub invariant-loop-left : goal.invariant-loop-left

@@ -1,7 +1,7 @@
 use Rattle.std.proofs.Common.{List, Err, ap, arith, length, subst, ℕ}
 use Rattle.tsv_text.specs.Lines.{lines_of}
 use Rattle.line_reader.specs.declared.stop.Stop.TheVariants as stop
-use Rattle.batch_reader.specs.Pushing.{PushesBlock}
+use Rattle.batch_reader.specs.proving.Pushing.{PushesBlock}
 use Rattle.batch_reader.proofs.Blocks.{refused-cause}
 use Rattle.batch_reader.proofs.Pending.{first-block, last-block, next-block, pending-refused}
 use Rattle.batch_reader.proofs.reading.read_all.Goals as goal

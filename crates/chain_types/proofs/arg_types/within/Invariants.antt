@@ -1,6 +1,6 @@
 use Rattle.std.proofs.Common.{◌≡◌, map, take}
 use Rattle.agg_typing.specs.Kinds as rules
-use Rattle.chain_types.specs.Args.{arg_of, part_of}
+use Rattle.chain_types.specs.proving.Args.{arg_of, part_of}
 use Rattle.chain_types.proofs.arg_types.within.Given as goal
 
 abbrev pub invariant-loop-arg : goal.invariant-loop-arg

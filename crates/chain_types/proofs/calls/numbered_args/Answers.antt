@@ -1,5 +1,5 @@
 use Rattle.std.proofs.Common.{ap, ◌+◌}
-use Rattle.chain_types.specs.Args.{arg_of}
+use Rattle.chain_types.specs.proving.Args.{arg_of}
 use Rattle.value_types.specs.Folds.{ty_of}
 use Rattle.chain_types.proofs.Numbered.{number_more}
 use Rattle.chain_types.proofs.calls.numbered_args.Goals as goal

@@ -1,6 +1,6 @@
 use Rattle.std.proofs.Common.{◌≡◌, map, take}
 use Rattle.agg_terms.specs.Lists.{numbered}
-use Rattle.chain_types.specs.Args.{arg_of}
+use Rattle.chain_types.specs.proving.Args.{arg_of}
 use Rattle.value_types.specs.Folds.{ty_of}
 use Rattle.chain_types.proofs.calls.numbered_args.Given as goal
 

@@ -1,7 +1,7 @@
 use Rattle.std.proofs.Common.{◌≡◌, ◌&&◌, false, sym, ◌∙◌}
 use Rattle.agg_terms.specs.Types.{may_be_null}
 use Rattle.value_types.specs.Folds.{ty_of}
-use Rattle.field_texts.specs.Goals.{is_letter_n}
+use Rattle.field_texts.specs.proving.Goals.{is_letter_n}
 use Rattle.field_texts.proofs.Stacks.{bare_opened, left_false, right_false}
 use Rattle.field_texts.proofs.goal.open.Goals as goal
 use Rattle.field_texts.proofs.goal.open.Goals.{else-is_letter_n-via-then-is_letter_n+else-is_nullable, else-is_letter_n-via-else-is_letter_n}

@@ -2,7 +2,7 @@ use Rattle.std.proofs.Common.{get_or, arith}
 use Rattle.first_fault.proofs.Machines.{run_on, run_off, run_out}
 use Rattle.value_types.specs.Folds.{ty_of}
 use Rattle.field_texts.specs.Syntax.{shape_of}
-use Rattle.field_texts.specs.Goals.{stack_of}
+use Rattle.field_texts.specs.proving.Goals.{stack_of}
 use Rattle.field_texts.specs.Machine as machine
 use Rattle.field_texts.proofs.Judged.{told_ok, told_err}
 use Rattle.field_texts.proofs.Stacks.{went_on, went_off, ends_well, ends_early}

@@ -3,7 +3,7 @@ use Rattle.first_fault.specs.Machine.{run, shifted}
 use Rattle.value_types.specs.Folds.{ty_of}
 use Rattle.field_texts.specs.Syntax.{shape_of}
 use Rattle.field_texts.specs.Machine.{step, done, judge}
-use Rattle.field_texts.specs.Goals.{stack_of}
+use Rattle.field_texts.specs.proving.Goals.{stack_of}
 use Rattle.field_texts.proofs.judge.syntax_fault.Given as goal
 
 abbrev pub invariant-loop-byte : goal.invariant-loop-byte

@@ -9,7 +9,7 @@ use Rattle.value_types.specs.declared.value.Tree.TheVariants as tree
 use Rattle.value_types.specs.Folds.{chain_of, tree_of, ty_of, value_of}
 use Rattle.value_types.proofs.FoldLaws.{tree_of-Rows, value_of-Cell}
 use Rattle.plain_rows.specs.Rows.{rows_of}
-use Rattle.plain_meaning.specs.Answers.{Answers}
+use Rattle.plain_meaning.specs.proving.Answers.{Answers}
 use Rattle.plain_meaning.specs.Inward.{rows_at, rows_inside}
 use Rattle.plain_meaning.proofs.Links.{array_ok, distinct_answers, if_ok, is_array, is_distinct, is_each, is_if, is_map, is_or_default, is_or_null, is_resample, is_state, or_default_answers, or_null_answers, state_answers}
 use Rattle.plain_meaning.proofs.Parts.{each_answers, keys_turn, map_answers, parts_turn, resample_answers}

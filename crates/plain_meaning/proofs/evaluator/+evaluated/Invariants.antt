@@ -2,7 +2,7 @@ use Rattle.std.proofs.Common.{map, take}
 use Rattle.agg_terms.specs.Lists.{places}
 use Rattle.value_types.specs.Folds.{chain_of, ty_of, value_of}
 use Rattle.plain_rows.specs.Rows.{rows_of}
-use Rattle.plain_meaning.specs.Answers.{AtKeys, Gathers}
+use Rattle.plain_meaning.specs.proving.Answers.{AtKeys, Gathers}
 use Rattle.plain_meaning.specs.Inward.{rows_at, rows_inside}
 use Rattle.plain_meaning.proofs.evaluator.+evaluated.Given as goal
 

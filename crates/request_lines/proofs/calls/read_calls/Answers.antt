@@ -1,7 +1,7 @@
 use Rattle.std.proofs.Common.{[], ◌∷◌, ◌++◌, refl, ap, ◌∙◌}
 use Rattle.line_forms.specs.Selects.{call_signs, CallFits}
-use Rattle.request_lines.specs.Judging.{call, calls}
-use Rattle.request_lines.specs.Reads.{IsCallRead}
+use Rattle.request_lines.specs.proving.Judging.{call, calls}
+use Rattle.request_lines.specs.proving.Reads.{IsCallRead}
 use Rattle.request_lines.proofs.ListsRead.{list_begins, list_more, list_ends}
 use Rattle.request_lines.proofs.Steps.{no_calls}
 use Rattle.request_lines.proofs.calls.read_calls.Goals as goal

@@ -1,7 +1,7 @@
 use Rattle.std.proofs.Common.{[], ◌∷◌, length}
 use Rattle.line_forms.specs.Selects.{call_signs, CallFits}
-use Rattle.request_lines.specs.Judging.{call, calls}
-use Rattle.request_lines.specs.Reads.{IsCallRead}
+use Rattle.request_lines.specs.proving.Judging.{call, calls}
+use Rattle.request_lines.specs.proving.Reads.{IsCallRead}
 use Rattle.request_lines.proofs.ListsRead.{SoFar}
 use Rattle.request_lines.proofs.calls.read_calls.Given as goal
 

@@ -1,5 +1,5 @@
 use Rattle.std.proofs.Common.{[], ◌∷◌}
-use Rattle.request_lines.specs.Judging.{a_name, names, closing}
+use Rattle.request_lines.specs.proving.Judging.{a_name, names, closing}
 use Rattle.request_lines.proofs.CallsRead.{closed_names}
 use Rattle.request_lines.proofs.ListsRead.{further_on, passes_on}
 use Rattle.request_lines.proofs.calls.read_closed_names.Goals as goal

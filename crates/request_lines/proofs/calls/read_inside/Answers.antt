@@ -1,4 +1,4 @@
-use Rattle.request_lines.specs.Letters.{letters_left}
+use Rattle.request_lines.specs.proving.Letters.{letters_left}
 use Rattle.request_lines.proofs.CallsRead.{empty_told, word_told, literal_told}
 use Rattle.request_lines.proofs.calls.read_inside.Goals as goal
 

@@ -1,4 +1,4 @@
-use Rattle.request_lines.specs.Letters.{letters_left}
+use Rattle.request_lines.specs.proving.Letters.{letters_left}
 use Rattle.request_lines.proofs.CallsRead.{empty_alone, empty_then, no_arguments_pass, optional_passes, stays}
 use Rattle.request_lines.proofs.ListsRead.{further_on}
 use Rattle.request_lines.proofs.calls.read_optional.Goals as goal

@@ -1,5 +1,5 @@
 use Rattle.std.proofs.Common.{[], ◌∷◌}
-use Rattle.request_lines.specs.Judging.{a_literal, literals, opening, closing}
+use Rattle.request_lines.specs.proving.Judging.{a_literal, literals, opening, closing}
 use Rattle.request_lines.proofs.CallsRead.{params_read}
 use Rattle.request_lines.proofs.ListsRead.{further_on, passes_on}
 use Rattle.request_lines.proofs.calls.read_params.Goals as goal

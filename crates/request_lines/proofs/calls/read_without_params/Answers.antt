@@ -1,4 +1,4 @@
-use Rattle.request_lines.specs.Letters.{letters_left}
+use Rattle.request_lines.specs.proving.Letters.{letters_left}
 use Rattle.request_lines.proofs.CallsRead.{without_params}
 use Rattle.request_lines.proofs.calls.read_without_params.Goals as goal
 

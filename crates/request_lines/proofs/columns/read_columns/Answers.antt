@@ -1,8 +1,8 @@
 use Rattle.std.proofs.Common.{[], ◌∷◌, refl}
 use Rattle.type_names.specs.declared.goal.Goal.TheVariants.{AnyType}
 use Rattle.line_forms.specs.Tables.{column_signs, ColumnFits}
-use Rattle.request_lines.specs.Judging.{a_name, in_type, columns}
-use Rattle.request_lines.specs.Reads.{IsColumnRead}
+use Rattle.request_lines.specs.proving.Judging.{a_name, in_type, columns}
+use Rattle.request_lines.specs.proving.Reads.{IsColumnRead}
 use Rattle.request_lines.proofs.ListsRead.{list_more, list_ends}
 use Rattle.request_lines.proofs.Steps.{no_columns}
 use Rattle.request_lines.proofs.columns.read_columns.Goals as goal

@@ -1,8 +1,8 @@
 use Rattle.std.proofs.Common.{[], ◌∷◌, length}
 use Rattle.type_names.specs.declared.goal.Goal.TheVariants.{AnyType}
 use Rattle.line_forms.specs.Tables.{column_signs, ColumnFits}
-use Rattle.request_lines.specs.Judging.{a_name, in_type, columns}
-use Rattle.request_lines.specs.Reads.{IsColumnRead}
+use Rattle.request_lines.specs.proving.Judging.{a_name, in_type, columns}
+use Rattle.request_lines.specs.proving.Reads.{IsColumnRead}
 use Rattle.request_lines.proofs.ListsRead.{SoFar}
 use Rattle.request_lines.proofs.columns.read_columns.Given as goal
 

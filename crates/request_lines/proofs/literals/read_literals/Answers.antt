@@ -1,7 +1,7 @@
 use Rattle.std.proofs.Common.{[], ◌∷◌, ◌++◌, refl, ap, ◌∙◌}
 use Rattle.line_forms.specs.Selects.{literal_part}
-use Rattle.request_lines.specs.Judging.{a_literal, literals}
-use Rattle.request_lines.specs.Reads.{LiteralFits, IsLiteralOf}
+use Rattle.request_lines.specs.proving.Judging.{a_literal, literals}
+use Rattle.request_lines.specs.proving.Reads.{LiteralFits, IsLiteralOf}
 use Rattle.request_lines.proofs.ListsRead.{list_begins, list_more, list_ends}
 use Rattle.request_lines.proofs.Steps.{no_literals}
 use Rattle.request_lines.proofs.literals.read_literals.Goals as goal

@@ -1,7 +1,7 @@
 use Rattle.std.proofs.Common.{[], ◌∷◌, ◌++◌, refl, ap, ◌∙◌}
 use Rattle.line_forms.specs.Letters.{name_part}
-use Rattle.request_lines.specs.Judging.{a_name, names}
-use Rattle.request_lines.specs.Reads.{NameFits, IsNameOf}
+use Rattle.request_lines.specs.proving.Judging.{a_name, names}
+use Rattle.request_lines.specs.proving.Reads.{NameFits, IsNameOf}
 use Rattle.request_lines.proofs.ListsRead.{list_begins, list_more, list_ends}
 use Rattle.request_lines.proofs.Steps.{no_names}
 use Rattle.request_lines.proofs.names.read_names.Goals as goal

@@ -1,7 +1,7 @@
 use Rattle.std.proofs.Common.{[], ◌∷◌, length}
 use Rattle.line_forms.specs.Letters.{name_part}
-use Rattle.request_lines.specs.Judging.{a_name, names}
-use Rattle.request_lines.specs.Reads.{NameFits, IsNameOf}
+use Rattle.request_lines.specs.proving.Judging.{a_name, names}
+use Rattle.request_lines.specs.proving.Reads.{NameFits, IsNameOf}
 use Rattle.request_lines.proofs.ListsRead.{SoFar}
 use Rattle.request_lines.proofs.names.read_names.Given as goal
 

@@ -2,7 +2,7 @@ use Rattle.std.proofs.Common.{◌∙◌, Bool, Err, arith, not, subst, sym}
 use Rattle.line_forms.specs.Views.{line_of}
 use Rattle.request_rules.specs.declared.refusal.Refusal.{Refusal}
 use Rattle.script_text.specs.Forms.{IsFormIn, SpellsLineIn}
-use Rattle.script_text.specs.Taking.{IsJudgedAt, Steps}
+use Rattle.script_text.specs.proving.Taking.{IsJudgedAt, Steps}
 use Rattle.script_text.proofs.Read.{form_steps, no_form_steps, started}
 use Rattle.script_text.proofs.ShortLines.{line_few}
 use Rattle.script_text.proofs.reading.read_line.Goals as goal

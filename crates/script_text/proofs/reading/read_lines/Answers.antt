@@ -1,6 +1,6 @@
 use Rattle.std.proofs.Common.{Err, subst, sym}
 use Rattle.refusals.specs.declared.why.RequestFault.{RequestFault}
-use Rattle.script_text.specs.Taking.{ReadsOn}
+use Rattle.script_text.specs.proving.Taking.{ReadsOn}
 use Rattle.script_text.proofs.Read.{read_all, read_more, read_refused}
 use Rattle.script_text.proofs.reading.read_lines.Goals as goal
 

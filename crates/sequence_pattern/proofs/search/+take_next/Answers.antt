@@ -5,8 +5,8 @@ use Rattle.agg_meaning.specs.Events.{meets}
 use Rattle.value_types.specs.declared.pattern.PatItem.TheVariants as item
 use Rattle.value_types.specs.declared.pattern.PatLink.TheVariants as link
 use Rattle.value_types.specs.Folds.{event_of, item_of, link_of}
-use Rattle.sequence_pattern.specs.Hits.{hit, spot}
-use Rattle.sequence_pattern.specs.Fronts.{AreFronts, allowed, comes_first, next_place, seen_with, time_at}
+use Rattle.sequence_pattern.specs.proving.Hits.{hit, spot}
+use Rattle.sequence_pattern.specs.proving.Fronts.{AreFronts, allowed, comes_first, next_place, seen_with, time_at}
 use Rattle.sequence_pattern.proofs.Seen.{rises}
 use Rattle.sequence_pattern.proofs.Taken.{next_place-first, going, hit-later, done}
 use Rattle.sequence_pattern.proofs.search.+take_next.Goals as goal

@@ -1,6 +1,6 @@
 use Rattle.std.proofs.Common.{◌≡◌, ◌-◌, length, map, drop}
 use Rattle.value_types.specs.Folds.{event_of, item_of, link_of}
-use Rattle.sequence_pattern.specs.Fronts.{AreFronts, next_place}
+use Rattle.sequence_pattern.specs.proving.Fronts.{AreFronts, next_place}
 use Rattle.sequence_pattern.proofs.search.+take_next.Given as goal
 
 abbrev pub decreases-take_next : goal.decreases-take_next

@@ -2,8 +2,8 @@ use Rattle.std.proofs.Common.{◌≡◌, ◌≤◌, None, length, map, get_or, �
 use Rattle.std.specs.Prelude.{is_some}
 use Rattle.std.proofs.lemmas.List.{length-map}
 use Rattle.value_types.specs.Folds.{event_of, item_of, link_of}
-use Rattle.sequence_pattern.specs.Fronts.{next_place}
-use Rattle.sequence_pattern.specs.Hits.{any_below, hit}
+use Rattle.sequence_pattern.specs.proving.Fronts.{next_place}
+use Rattle.sequence_pattern.specs.proving.Hits.{any_below, hit}
 use Rattle.sequence_pattern.proofs.Taken.{next_place-first}
 use Rattle.sequence_pattern.proofs.Ended.{blank_are_fronts, whole}
 use Rattle.sequence_pattern.proofs.search.has_hit.Goals as goal

@@ -1,6 +1,6 @@
 use Rattle.std.proofs.Common.{◌-◌, length, map}
 use Rattle.value_types.specs.Folds.{event_of, item_of, link_of}
-use Rattle.sequence_pattern.specs.Fronts.{AreFronts, next_place}
+use Rattle.sequence_pattern.specs.proving.Fronts.{AreFronts, next_place}
 use Rattle.sequence_pattern.proofs.search.has_hit.Given as goal
 
 abbrev pub invariant-loop-fronts : goal.invariant-loop-fronts

@@ -3,7 +3,7 @@ use Rattle.std.proofs.lemmas.List.{length-map}
 use Rattle.value_types.specs.declared.pattern.PatItem.{PatItem}
 use Rattle.value_types.specs.declared.pattern.PatLink.{PatLink}
 use Rattle.value_types.specs.Folds.{event_of, item_of, link_of, pattern_of}
-use Rattle.sequence_pattern.specs.Hits.{any_below, hit}
+use Rattle.sequence_pattern.specs.proving.Hits.{any_below, hit}
 use Rattle.sequence_pattern.proofs.Ends.{matched}
 use Rattle.sequence_pattern.proofs.Ended.{front_blank}
 use Rattle.sequence_pattern.proofs.search.matches.Goals as goal

@@ -1,7 +1,7 @@
 use Rattle.std.proofs.Common.{◌≡◌, map, fold, drop}
 use Rattle.agg_terms.specs.Values as family
 use Rattle.value_types.specs.Folds.{value_of}
-use Rattle.set_leaves.specs.Hashes.{all_writes, entry_writes}
+use Rattle.set_leaves.specs.proving.Hashes.{all_writes, entry_writes}
 use Rattle.set_leaves.specs.Tuples.{pair_of}
 use Rattle.set_leaves.proofs.hash.+hash.Given as goal
 

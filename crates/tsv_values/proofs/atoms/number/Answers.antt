@@ -2,7 +2,7 @@ use Rattle.std.proofs.Common.{Ok, subst, sym}
 use Rattle.value_types.specs.Folds.{ty_of, value_of}
 use Rattle.scalar_texts.specs.Numbers.{in_range}
 use Rattle.tsv_values.specs.Elements.{ElementSays}
-use Rattle.tsv_values.specs.Reading.{IsMissing, missing_of}
+use Rattle.tsv_values.specs.proving.Reading.{IsMissing, missing_of}
 use Rattle.tsv_values.proofs.ElementKinds.{found_number, missing_number}
 use Rattle.tsv_values.proofs.Numerals.{number_found, number_missing}
 use Rattle.tsv_values.proofs.atoms.number.Goals as goal

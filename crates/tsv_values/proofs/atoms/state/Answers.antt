@@ -3,7 +3,7 @@ use Rattle.value_types.specs.Folds.{ty_of}
 use Rattle.scalar_texts.specs.Answer.{state_answer}
 use Rattle.tsv_text.specs.Escapes.{IsUnescaped}
 use Rattle.tsv_values.specs.Elements.{QuotedSays}
-use Rattle.tsv_values.specs.Reading.{IsMissing}
+use Rattle.tsv_values.specs.proving.Reading.{IsMissing}
 use Rattle.tsv_values.proofs.Quoted.{cut_none, escape_nothing, state_found, state_refused}
 use Rattle.tsv_values.proofs.atoms.state.Goals as goal
 

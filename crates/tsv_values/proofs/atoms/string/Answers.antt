@@ -1,6 +1,6 @@
 use Rattle.std.proofs.Common.{subst, sym}
 use Rattle.tsv_values.specs.Elements.{QuotedSays}
-use Rattle.tsv_values.specs.Reading.{IsMissing}
+use Rattle.tsv_values.specs.proving.Reading.{IsMissing}
 use Rattle.tsv_values.proofs.Quoted.{bytes_said, cut_none, string_found, string_missing}
 use Rattle.tsv_values.proofs.atoms.string.Goals as goal
 

@@ -6,7 +6,7 @@ use Rattle.value_types.specs.declared.value.Value.{Value}
 use Rattle.value_types.specs.Folds.{ty_of, value_of}
 use Rattle.tsv_values.specs.declared.found.Missing.TheVariants.{Nothing}
 use Rattle.tsv_values.specs.Elements.{ElementSays, EntrySays}
-use Rattle.tsv_values.specs.Steps.{step_of}
+use Rattle.tsv_values.specs.proving.Steps.{step_of}
 use Rattle.tsv_values.proofs.Beginnings.{element_begins, entry_begins}
 use Rattle.tsv_values.proofs.ElementKinds.{array_found, array_missing, at_Arr, at_Map, at_State, at_Str, at_filled, at_null, map_found, map_missing, pair_of}
 use Rattle.tsv_values.proofs.Entries.{entry_found, no_colon, no_key, no_value}

@@ -5,8 +5,8 @@ use Rattle.agg_terms.specs.Fitting.{fits_plain, fits_value}
 use Rattle.value_types.specs.Folds.{ty_of, value_of}
 use Rattle.tsv_values.specs.Answer.{KeysArePlain}
 use Rattle.tsv_values.specs.Elements.{ElementSays, EntrySays}
-use Rattle.tsv_values.specs.Height.{height}
-use Rattle.tsv_values.specs.Steps.{step_of}
+use Rattle.tsv_values.specs.proving.Height.{height}
+use Rattle.tsv_values.specs.proving.Steps.{step_of}
 use Rattle.tsv_values.proofs.Beginnings.{element_begins, entry_begins}
 use Rattle.tsv_values.proofs.ElementKinds.{pair_of}
 use Rattle.tsv_values.proofs.Lists.{IsSoFar, brace, bracket}

@@ -1,5 +1,5 @@
 use Rattle.std.proofs.Common.{◌≡◌, length}
-use Rattle.tsv_values.specs.Steps.{after_spaces}
+use Rattle.tsv_values.specs.proving.Steps.{after_spaces}
 use Rattle.tsv_values.proofs.next.skip_spaces.Given as goal
 
 abbrev pub invariant-loop-left : goal.invariant-loop-left

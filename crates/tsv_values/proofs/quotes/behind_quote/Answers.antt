@@ -1,6 +1,6 @@
 use Rattle.std.proofs.Common.{ap, sym, ◌∙◌}
 use Rattle.std.proofs.Common.{Some, false}
-use Rattle.tsv_values.specs.Reading.{behind_quote}
+use Rattle.tsv_values.specs.proving.Reading.{behind_quote}
 use Rattle.tsv_values.proofs.Closing.{at_backslash, at_mark, at_quote, lone_backslash, no_quote, special_there}
 use Rattle.tsv_values.proofs.quotes.behind_quote.Goals as goal
 

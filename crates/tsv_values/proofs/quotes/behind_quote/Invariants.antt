@@ -1,5 +1,5 @@
 use Rattle.std.proofs.Common.{◌≡◌, false, length}
-use Rattle.tsv_values.specs.Reading.{behind_quote}
+use Rattle.tsv_values.specs.proving.Reading.{behind_quote}
 use Rattle.tsv_values.proofs.quotes.behind_quote.Given as goal
 
 abbrev pub invariant-loop-at : goal.invariant-loop-at

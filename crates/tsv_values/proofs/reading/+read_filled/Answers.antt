@@ -1,6 +1,6 @@
 use Rattle.std.proofs.Common.{Err, subst}
 use Rattle.value_types.specs.Folds.{ty_of}
-use Rattle.tsv_values.specs.Reading.{IsNestedAnswer}
+use Rattle.tsv_values.specs.proving.Reading.{IsNestedAnswer}
 use Rattle.tsv_values.proofs.Refusals.{array_fault, bad_array, bad_map, map_fault}
 use Rattle.tsv_values.proofs.reading.+read_filled.Goals as goal
 

@@ -3,7 +3,7 @@ use Rattle.value_types.specs.Folds.{ty_of}
 use Rattle.field_texts.specs.Faults.{IsFieldFault}
 use Rattle.field_texts.specs.Syntax.{shape_of}
 use Rattle.tsv_values.specs.Elements.{FieldSays}
-use Rattle.tsv_values.specs.Reading.{IsWholeRead}
+use Rattle.tsv_values.specs.proving.Reading.{IsWholeRead}
 use Rattle.tsv_values.proofs.Whole.{nothing_told, refused_told}
 use Rattle.tsv_values.proofs.reading.read_nested.Goals as goal
 

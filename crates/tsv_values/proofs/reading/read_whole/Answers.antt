@@ -1,7 +1,7 @@
 use Rattle.std.proofs.Common.{Ok, subst, sym, ◌∙◌}
 use Rattle.value_types.specs.Folds.{ty_of, value_of}
 use Rattle.tsv_values.specs.Elements.{ElementSays}
-use Rattle.tsv_values.specs.Reading.{IsFound, IsMissing}
+use Rattle.tsv_values.specs.proving.Reading.{IsFound, IsMissing}
 use Rattle.tsv_values.proofs.Refusals.{empty_is, some_is}
 use Rattle.tsv_values.proofs.Whole.{more_behind, whole_found, whole_missing}
 use Rattle.tsv_values.proofs.reading.read_whole.Goals as goal

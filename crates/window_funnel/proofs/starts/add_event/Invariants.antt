@@ -1,5 +1,5 @@
 use Rattle.std.proofs.Common.{◌≡◌, ◌++◌, Some, take, drop}
-use Rattle.window_funnel.specs.Starts.{with_event}
+use Rattle.window_funnel.specs.proving.Starts.{with_event}
 use Rattle.value_types.specs.Folds.{event_of}
 use Rattle.window_funnel.proofs.starts.add_event.Given as goal
 

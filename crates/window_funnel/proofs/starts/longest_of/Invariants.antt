@@ -1,5 +1,5 @@
 use Rattle.std.proofs.Common.{◌≡◌, ◌≤◌, ◌+◌, max, drop}
-use Rattle.window_funnel.specs.Starts.{longest}
+use Rattle.window_funnel.specs.proving.Starts.{longest}
 use Rattle.window_funnel.proofs.starts.longest_of.Given as goal
 
 abbrev pub invariant-loop-i : goal.invariant-loop-i

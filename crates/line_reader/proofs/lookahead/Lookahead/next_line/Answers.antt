@@ -1,7 +1,7 @@
 use Rattle.std.proofs.Common.{ℕ, Option, Ok, Err, subst}
 use Rattle.line_reader.specs.Ahead.{Ahead}
 use Rattle.line_reader.specs.Answers.{ReadsNext}
-use Rattle.line_reader.specs.Awaiting.{AwaitsLine, TakesLine}
+use Rattle.line_reader.specs.proving.Awaiting.{AwaitsLine, TakesLine}
 use Rattle.line_reader.proofs.Handed.{ahead_of}
 use Rattle.line_reader.proofs.Lined.{fault-next, last-next, line-next, some-of}
 use Rattle.line_reader.proofs.lookahead.Lookahead.next_line.Goals as goal

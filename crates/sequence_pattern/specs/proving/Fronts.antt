@@ -4,7 +4,7 @@ use Rattle.agg_terms.specs.Chains.{Above, At, AtOrAbove, Below, BelowOrAt, Gap, 
 use Rattle.agg_terms.specs.Values.{Event}
 use Rattle.sequence_pattern.specs.declared.front.Front.{Front}
 use Rattle.sequence_pattern.specs.declared.front.Seen.{Seen}
-use Rattle.sequence_pattern.specs.Hits.{hit, spot}
+use Rattle.sequence_pattern.specs.proving.Hits.{hit, spot}
 
 abbrev pub time_at : List Event → ℕ → ℕ
 time_at es p = (spot es p).1.time

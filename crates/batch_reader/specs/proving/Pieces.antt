@@ -7,7 +7,7 @@ use Rattle.value_types.specs.declared.value.Value.{Value}
 use Rattle.columns.specs.Rows.{no_rows}
 use Rattle.tsv_text.specs.Lines.{lines_of}
 use Rattle.scalar_texts.specs.States.{ReadsStates}
-use Rattle.batch_reader.specs.Pushing.{PushesLines}
+use Rattle.batch_reader.specs.proving.Pushing.{PushesLines}
 use Rattle.batch_reader.specs.declared.lane.Lane.{Lane}
 
 -- the lines of the pieces, one piece behind the other

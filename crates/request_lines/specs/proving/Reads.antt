@@ -20,8 +20,8 @@ use Rattle.line_forms.specs.declared.script_line.WrittenLine.{WrittenLine}
 use Rattle.line_forms.specs.declared.fault.LineFault.{LineFault}
 use Rattle.request_lines.specs.declared.rest.Rest.{Rest}
 use Rattle.request_lines.specs.declared.calls.Inside.{Inside}
-use Rattle.request_lines.specs.Letters.{letters_left, IsFurther}
-use Rattle.request_lines.specs.Judging.{Goal, stop}
+use Rattle.request_lines.specs.proving.Letters.{letters_left, IsFurther}
+use Rattle.request_lines.specs.proving.Judging.{Goal, stop}
 
 -- With these goals first, the line stops where it stops with the others, from what is left on.
 abbrev pub Passes : List Goal → Rest → Rest → Type 0

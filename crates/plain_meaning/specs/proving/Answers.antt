@@ -7,7 +7,7 @@ use Rattle.value_types.specs.Folds.{entry_of, tree_of, value_of}
 use Rattle.plain_meaning.specs.declared.answer.Answer.{Answer}
 use Rattle.plain_meaning.specs.declared.answer.Gathered.{Gathered}
 use Rattle.plain_meaning.specs.declared.answer.Keyed.{Keyed}
-use Rattle.plain_meaning.specs.Images.{image_of}
+use Rattle.plain_meaning.specs.proving.Images.{image_of}
 use Rattle.plain_meaning.specs.Inward.{fed_of, meaning_of, normal_of, rows_at_key}
 
 pub record Answers (c : Chain) (ts : List Ty) (rows : List (List Value)) (a : Answer) : Type 0 where

@@ -1,0 +1,4 @@
+-- What only serves proofs: no public contract stands on it.
+pub mod Judging
+pub mod Letters
+pub mod Reads
