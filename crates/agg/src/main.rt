@@ -8,7 +8,7 @@ use std::io::ErrorKind;
 use std::process::ExitCode;
 
 /// Why the words behind the program's name can't be had.
-#[derive(Clone, Copy, Debug, PartialEq, Eq)]
+#[derive(Clone, Copy)]
 enum WordsFault {
     NotText,
     OutOfMemory,

@@ -14,7 +14,7 @@ pub(crate) const INPUT_LIMIT: usize = 268_435_456;
 const ROOM: usize = 262_144;
 
 /// Why an input is not read.
-#[derive(Clone, Copy, Debug, PartialEq, Eq)]
+#[derive(Clone, Copy)]
 pub enum ReadError {
     Fault,
     TooLarge,

@@ -13,13 +13,13 @@ use std::alloc::Global;
 use tsv_text::{field_count, first_field, first_line};
 
 /// The first row that is refused, and why.
-#[derive(Clone, Copy, Debug, PartialEq, Eq)]
+#[derive(Clone, Copy)]
 pub struct Refused {
     pub row: u64,
     pub why: RowWhy,
 }
 
-#[derive(Clone, Copy, Debug, PartialEq, Eq)]
+#[derive(Clone, Copy)]
 pub enum RowsError {
     Memory,
     Bad(Refused),

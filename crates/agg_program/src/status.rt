@@ -5,14 +5,14 @@ ghost use Rattle.agg_program.specs.Refusals.{exit_number};
 use crate::fields::FieldFault;
 
 /// Why a line of the request is refused.
-#[derive(Clone, Copy, Debug, PartialEq, Eq)]
+#[derive(Clone, Copy)]
 pub enum Why {
     /// This program doesn't have the form that the line asks for.
     NotBuilt,
 }
 
 /// Why a row is refused.
-#[derive(Clone, Copy, Debug, PartialEq, Eq)]
+#[derive(Clone, Copy)]
 pub enum RowWhy {
     /// The field of a column, counted from 1.
     Field { column: u32, fault: FieldFault },
@@ -21,13 +21,13 @@ pub enum RowWhy {
 }
 
 /// What is too large.
-#[derive(Clone, Copy, Debug, PartialEq, Eq)]
+#[derive(Clone, Copy)]
 pub enum Size {
     Input,
 }
 
 /// How a run ends. Lines and rows count from 1.
-#[derive(Clone, Copy, Debug, PartialEq, Eq)]
+#[derive(Clone, Copy)]
 pub enum Status {
     Done,
     /// The words are not the program's.
