@@ -1,5 +1,7 @@
 //! The types of results and states.
-ghost use Rattle.std.specs.Prelude.{◌≡◌, map, IfOk};
+ghost use Rattle.std.specs.Prelude.{◌≡◌, cond, map, IfOk};
+ghost use mir.Syntax.{w64};
+ghost use Rattle.agg_terms.specs.Chains.{Arr, MapTy, Signed, Whole};
 ghost use Rattle.agg_terms.specs.Types as types;
 ghost use Rattle.agg_meaning.specs.Results as meaning;
 ghost use Rattle.agg_defs.specs.proving.Reached.{types_of};
@@ -30,22 +32,30 @@ fn nullable_if(alloc: Global, nullable: bool, ty: Ty) -> Result<Ty, OutOfMemory>
     }
 }
 
+/// Whether an `OrNull` makes a type Nullable.
+fn gains_null(ty: &Ty) -> bool
+    ensures { meaning.with_null (ty_of ty.now) ≡ meaning.nullable_if result (ty_of ty.now) }
+{
+    match ty {
+        Ty::U8 | Ty::U16 | Ty::U32 | Ty::U64 | Ty::Str => true,
+        Ty::I8 | Ty::I16 | Ty::I32 | Ty::I64 => true,
+        Ty::Arr(_) | Ty::Map(_, _) | Ty::Nullable(_) | Ty::State(_, _) => false,
+    }
+}
+
 /// The type of an `OrNull`: a number or String becomes Nullable, another type stays.
 fn with_null(alloc: Global, ty: Ty) -> Result<Ty, OutOfMemory>
     ensures { IfOk result (λ t. ty_of t ≡ meaning.with_null (ty_of ty)) }
 {
-    match ty {
-        Ty::U8 => Ok(Ty::Nullable(Boxed::new(alloc, Ty::U8)?)),
-        Ty::U16 => Ok(Ty::Nullable(Boxed::new(alloc, Ty::U16)?)),
-        Ty::U32 => Ok(Ty::Nullable(Boxed::new(alloc, Ty::U32)?)),
-        Ty::U64 => Ok(Ty::Nullable(Boxed::new(alloc, Ty::U64)?)),
-        Ty::I8 => Ok(Ty::Nullable(Boxed::new(alloc, Ty::I8)?)),
-        Ty::I16 => Ok(Ty::Nullable(Boxed::new(alloc, Ty::I16)?)),
-        Ty::I32 => Ok(Ty::Nullable(Boxed::new(alloc, Ty::I32)?)),
-        Ty::I64 => Ok(Ty::Nullable(Boxed::new(alloc, Ty::I64)?)),
-        Ty::Str => Ok(Ty::Nullable(Boxed::new(alloc, Ty::Str)?)),
-        other => Ok(other),
-    }
+    let nullable = gains_null(&ty);
+    nullable_if(alloc, nullable, ty)
+}
+
+/// The type of lists of a type.
+fn list_of(alloc: Global, item: Ty) -> Result<Ty, OutOfMemory>
+    ensures { IfOk result (λ t. ty_of t ≡ Arr (ty_of item)) }
+{
+    Ok(Ty::Arr(Boxed::new(alloc, item)?))
 }
 
 /// The first type without Nullable; String where there is none, as the definitions have it.
@@ -76,33 +86,45 @@ fn first_key(alloc: Global, args: &[Reached<'_>]) -> Result<Ty, OutOfMemory>
     }
 }
 
+/// The type of maps from the first type's keys.
+fn map_to(alloc: Global, args: &[Reached<'_>], item: Ty) -> Result<Ty, OutOfMemory>
+    ensures { IfOk result (λ t. ty_of t ≡ MapTy (types.key_type (types.first_type (types_of args.now))) (ty_of item)) }
+{
+    let item = Boxed::new(alloc, item)?;
+    Ok(Ty::Map(Boxed::new(alloc, first_key(alloc, args)?)?, item))
+}
+
+/// The type of a sum: the widest number of the first type's sign.
+fn sum_type(args: &[Reached<'_>]) -> Ty
+    ensures { ty_of result ≡ cond (types.is_signed (types.first_type (types_of args.now))) (Signed w64) (Whole 64) }
+{
+    if first_is_signed(args) {
+        Ty::I64
+    } else {
+        Ty::U64
+    }
+}
+
+/// The first type without Nullable, and Nullable where an argument may be NULL.
+fn first_or_null(alloc: Global, args: &[Reached<'_>]) -> Result<Ty, OutOfMemory>
+    ensures { IfOk result (λ t. ty_of t ≡ meaning.nullable_if (types.any_null (types_of args.now)) (types.bare (types.first_type (types_of args.now)))) }
+{
+    let first = bare_first(alloc, args)?;
+    nullable_if(alloc, any_null(args), first)
+}
+
 fn leaf_result(alloc: Global, leaf: &Leaf, args: &[Reached<'_>]) -> Result<Ty, OutOfMemory>
     ensures { IfOk result (λ t. ty_of t ≡ meaning.leaf_result (leaf_of leaf.now) (types_of args.now)) }
 {
     match leaf {
         Leaf::Count | Leaf::UniqExact => Ok(Ty::U64),
         Leaf::WindowFunnel(_, _) | Leaf::SequenceMatch(_) => Ok(Ty::U8),
-        Leaf::Retention => Ok(Ty::Arr(Boxed::new(alloc, Ty::U8)?)),
-        Leaf::GroupArray(_) => Ok(Ty::Arr(Boxed::new(alloc, bare_first(alloc, args)?)?)),
-        Leaf::Sum => {
-            let ty = if first_is_signed(args) {
-                Ty::I64
-            } else {
-                Ty::U64
-            };
-            nullable_if(alloc, any_null(args), ty)
-        }
-        Leaf::Min | Leaf::Max | Leaf::ArgMin | Leaf::ArgMax => nullable_if(
-            alloc,
-            any_null(args),
-            bare_first(alloc, args)?,
-        ),
-        Leaf::BitAnd | Leaf::BitOr | Leaf::BitXor => nullable_if(
-            alloc,
-            any_null(args),
-            bare_first(alloc, args)?,
-        ),
-        Leaf::QuantileExact(_) => nullable_if(alloc, any_null(args), bare_first(alloc, args)?),
+        Leaf::Retention => list_of(alloc, Ty::U8),
+        Leaf::GroupArray(_) => list_of(alloc, bare_first(alloc, args)?),
+        Leaf::Sum => nullable_if(alloc, any_null(args), sum_type(args)),
+        Leaf::Min | Leaf::Max | Leaf::ArgMin | Leaf::ArgMax => first_or_null(alloc, args),
+        Leaf::BitAnd | Leaf::BitOr | Leaf::BitXor => first_or_null(alloc, args),
+        Leaf::QuantileExact(_) => first_or_null(alloc, args),
     }
 }
 
@@ -166,7 +188,7 @@ fn result_type(alloc: Global, chain: &Chain, args: &[Reached<'_>]) -> Result<Ty,
         Chain::If(of) => result_type(alloc, of.get(), front(args)),
         Chain::Resample(_, _, _, of) => {
             let one = result_type(alloc, of.get(), front(args))?;
-            Ok(Ty::Arr(Boxed::new(alloc, one)?))
+            list_of(alloc, one)
         }
         Chain::Array(of) => {
             let inner = within(alloc, Passed::Element, args)?;
@@ -175,13 +197,12 @@ fn result_type(alloc: Global, chain: &Chain, args: &[Reached<'_>]) -> Result<Ty,
         Chain::ForEach(of) => {
             let inner = within(alloc, Passed::Element, args)?;
             let one = result_type(alloc, of.get(), inner.as_slice())?;
-            Ok(Ty::Arr(Boxed::new(alloc, one)?))
+            list_of(alloc, one)
         }
         Chain::MapOf(of) => {
-            let key = Boxed::new(alloc, first_key(alloc, args)?)?;
             let inner = within(alloc, Passed::MapValue, args)?;
             let one = result_type(alloc, of.get(), inner.as_slice())?;
-            Ok(Ty::Map(key, Boxed::new(alloc, one)?))
+            map_to(alloc, args, one)
         }
         Chain::OrNull(of) => with_null(alloc, result_type(alloc, of.get(), args)?),
         Chain::OrDefault(of) => result_type(alloc, of.get(), args),
