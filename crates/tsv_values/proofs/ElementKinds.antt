@@ -24,7 +24,7 @@ use Rattle.tsv_values.proofs.Fronts.{missing_by}
 
 -- ---- a byte before it
 
-behind_at : (b d : ℕ) (says : Said → List ℕ → Type 0) (inside front : List ℕ) (other : Said) (behind : List ℕ) → Behind b (says other) front → d ∷ inside ≡ front ++ behind
+pub behind_at : (b d : ℕ) (says : Said → List ℕ → Type 0) (inside front : List ℕ) (other : Said) (behind : List ℕ) → Behind b (says other) front → d ∷ inside ≡ front ++ behind
     → (d ≡ b) × ((t : List ℕ) × says other t × (inside ≡ t ++ behind))
 behind_at b d says inside [] other behind h e = absurd h
 behind_at b d says inside (c ∷ t) other behind h e = let head : d ≡ c = cc in let tail : inside ≡ t ++ behind = cc in (head ∙ h.0, (t, h.1, tail))
@@ -134,7 +134,7 @@ null_there (a ∷ b ∷ c ∷ []) rest e = absurd cc
 null_there (a ∷ b ∷ c ∷ d ∷ u) rest e = null_test a b c d u rest (eqb a 78 && eqb b 85 && eqb c 76 && eqb d 76) refl e
 
 -- what begins with an N is NULL
-abbrev Lettered : List ℕ → Said → Type 0
+abbrev pub Lettered : List ℕ → Said → Type 0
 Lettered [] said = ⊥
 Lettered (b ∷ text) said = b ≡ 78 → (b ∷ text ≡ codes "NULL") × (said ≡ Ok family.Nil)
 
@@ -156,7 +156,7 @@ null_letter : (text : List ℕ) (said : Said) → text ≡ codes "NULL" → said
 null_letter [] said e s = absurd cc
 null_letter (b ∷ text) said e s = λ f. (e, s)
 
-element_letter : (reads : ReadsStates) (t : terms.Ty) (said : Said) (text : List ℕ) → ElementSays reads t said text → Lettered text said
+pub element_letter : (reads : ReadsStates) (t : terms.Ty) (said : Said) (text : List ℕ) → ElementSays reads t said text → Lettered text said
 element_letter reads (terms.Whole n) said text h = number_letter text said h.0
 element_letter reads (terms.Signed w) said text h = number_letter text said h.0
 element_letter reads terms.Str said text h = other_letter 39 (closed_text h.1.0) text said h.1.2 (λ e. absurd (omega (arith, e)))
@@ -166,7 +166,7 @@ element_letter reads (terms.Nullable t) said text (inr h) = null_letter text sai
 element_letter reads (terms.Arr t) said text h = behind_letter 91 _ text said h (λ e. absurd (omega (arith, e)))
 element_letter reads (terms.MapTy k t) said text h = behind_letter 123 _ text said h (λ e. absurd (omega (arith, e)))
 
-letter_at : (front behind u : List ℕ) (said : Said) → Lettered front said → 78 ∷ u ≡ front ++ behind → (front ≡ codes "NULL") × (said ≡ Ok family.Nil)
+pub letter_at : (front behind u : List ℕ) (said : Said) → Lettered front said → 78 ∷ u ≡ front ++ behind → (front ≡ codes "NULL") × (said ≡ Ok family.Nil)
 letter_at [] behind u said h e = absurd h
 letter_at (b ∷ front) behind u said h e = let head : 78 ≡ b = cc in h (sym head)
 

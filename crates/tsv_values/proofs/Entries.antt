@@ -30,17 +30,17 @@ colon_at (b ∷ u) text line e s = let t = colon_test (eqb b 58) b u line refl s
 
 module _ (key item : Said → List ℕ → Type 0) (item_begins : AllBegin item) where
   -- what an entry at the front is made of
-  record IsSplit (text : List ℕ) (other : Result (family.Value × family.Value) FieldFault) (behind : List ℕ) : Type 0 where
-    k : Said
-    v : Said
-    said : other ≡ entry_of k v
-    rest : List ℕ
-    first : IsAhead key text k rest
-    line : List ℕ
-    colon : after_spaces rest ≡ 58 ∷ line
-    second : IsAhead item (after_spaces line) v behind
+  pub record IsSplit (text : List ℕ) (other : Result (family.Value × family.Value) FieldFault) (behind : List ℕ) : Type 0 where
+    pub k : Said
+    pub v : Said
+    pub said : other ≡ entry_of k v
+    pub rest : List ℕ
+    pub first : IsAhead key text k rest
+    pub line : List ℕ
+    pub colon : after_spaces rest ≡ 58 ∷ line
+    pub second : IsAhead item (after_spaces line) v behind
 
-  split : (text : List ℕ) (other : Result (family.Value × family.Value) FieldFault) (behind : List ℕ) → IsAhead (EntrySays key item) text other behind → IsSplit text other behind
+  pub split : (text : List ℕ) (other : Result (family.Value × family.Value) FieldFault) (behind : List ℕ) → IsAhead (EntrySays key item) text other behind → IsSplit text other behind
   split text other behind a =
       let k = a.stands.0 in
       let v = a.stands.1 in

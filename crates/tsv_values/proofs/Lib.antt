@@ -17,3 +17,6 @@ pub mod Texts
 pub mod ReadBack
 pub mod BackInside
 pub mod ValuesBack
+pub mod Syntactic
+pub mod OneElement
+pub mod OneField

@@ -24,10 +24,10 @@ use Rattle.tsv_values.proofs.Fronts.{refused_by}
 abbrev pub OneText : Type 0
 OneText = (field : List ℕ) (one other : Result (List ℕ) TextFault) → IsUnescaped field one → IsUnescaped field other → IsSameAnswer one other
 
-some_same : (a b : List ℕ) → (let o : Option (List ℕ) = Some a in o) ≡ Some b → a ≡ b
+pub some_same : (a b : List ℕ) → (let o : Option (List ℕ) = Some a in o) ≡ Some b → a ≡ b
 some_same a b e = cc
 
-ok_same : (a b : List ℕ) → (let r : Result (List ℕ) TextFault = Ok a in r) ≡ Ok b → a ≡ b
+pub ok_same : (a b : List ℕ) → (let r : Result (List ℕ) TextFault = Ok a in r) ≡ Ok b → a ≡ b
 ok_same a b e = cc
 
 -- what may stand there: pieces and a quote
@@ -43,7 +43,7 @@ module _ (meaning : List ℕ → Said) where
   tail_of : (b : ℕ) (u v : List ℕ) (w : List ℕ) → b ∷ u ≡ w ++ v → (c : ℕ) (t : List ℕ) → w ≡ c ∷ t → (b ≡ c) × (u ≡ t ++ v)
   tail_of b u v w e c t f = let g : b ∷ u ≡ c ∷ (t ++ v) = e ∙ ap (λ x. x ++ v) f in (cc, cc)
 
-  opened : (b : ℕ) (text : List ℕ) (other : Said) (behind : List ℕ) → IsAhead (QuotedSays meaning) (b ∷ text) other behind → (b ≡ 39) × IsClosed meaning text other behind
+  pub opened : (b : ℕ) (text : List ℕ) (other : Said) (behind : List ℕ) → IsAhead (QuotedSays meaning) (b ∷ text) other behind → (b ≡ 39) × IsClosed meaning text other behind
   opened b text other behind a =
       let bytes = a.stands.0 in
       let q = a.stands.1 in
@@ -60,7 +60,7 @@ module _ (meaning : List ℕ → Said) where
         },
       )
 
-  nothing_empty : (text : List ℕ) (other : Said) (behind : List ℕ) → text ≡ [] → IsAhead (QuotedSays meaning) text other behind → ⊥
+  pub nothing_empty : (text : List ℕ) (other : Said) (behind : List ℕ) → text ≡ [] → IsAhead (QuotedSays meaning) text other behind → ⊥
   nothing_empty text other behind e a = let f : [] ≡ 39 ∷ (closed_text a.stands.1.0 ++ behind) = sym e ∙ a.whole ∙ ap (λ x. x ++ behind) a.stands.1.2 in cc
 
   -- the text that was cut off, and the bytes that it stands for

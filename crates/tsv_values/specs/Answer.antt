@@ -48,11 +48,5 @@ KeysArePlain (Nullable t) = KeysArePlain t
 KeysArePlain ty = Unit {0}
 
 -- Two answers are one, unless memory ran out; values count by what they are in the definitions.
-abbrev pub as_said : Result Value FieldFault → Said
-as_said (Ok value) = Ok (value_of value)
-as_said (Err fault) = Err fault
-
 abbrev pub IsSameAnswer : Result Value FieldFault → Result Value FieldFault → Type 0
-IsSameAnswer (Err OutOfMemory) other = Unit {0}
-IsSameAnswer one (Err OutOfMemory) = Unit {0}
-IsSameAnswer one other = as_said one ≡ as_said other
+IsSameAnswer one other = IsTold (λ a. IsTold (λ b. a ≡ b) other) one

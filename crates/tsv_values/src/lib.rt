@@ -17,7 +17,7 @@ mod writing;
 // what is written is read back
 mod laws;
 
-pub use laws::law_values_read_back;
+pub use laws::{law_one_field_answer, law_values_read_back};
 pub use reading::read_value;
 pub use scalar_texts::{FieldFault, StateFault, StateReadFault, StateReader, StateWriter};
 pub use writing::write_value;
