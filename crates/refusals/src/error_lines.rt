@@ -1,6 +1,7 @@
 //! The one line that a run writes in place of an answer.
 ghost use Rattle.refusals.specs.Words as words;
-ghost use Rattle.std.specs.Prelude.{◌≡◌, ◌++◌, OnOk};
+ghost use Rattle.std.specs.Prelude.{◌≡◌, ◌++◌, OnErr, OnOk};
+ghost use Rattle.value_lists.specs.Fronts.{HoldsFront};
 
 use crate::field_words::{put_field_why, put_state_why};
 use crate::line_words::put_line_why;
@@ -11,7 +12,8 @@ use scalar_texts::FieldFault;
 use value_lists::{Bytes, OutOfMemory};
 
 fn put_line(text: &mut Bytes, line: u64, why: Why) -> Result<(), OutOfMemory>
-    ensures { OnOk result (text.new ≡ text.old ++ words.refused_line line why) }
+    ensures ok { OnOk result (text.new ≡ text.old ++ words.refused_line line why) }
+    ensures err { OnErr result (HoldsFront text.old (words.refused_line line why) text.new) }
 {
     put_with_number(text, b"line ", line)?;
     text.extend_from_slice(b": ")?;
@@ -19,7 +21,8 @@ fn put_line(text: &mut Bytes, line: u64, why: Why) -> Result<(), OutOfMemory>
 }
 
 fn put_place(text: &mut Bytes, row: u64, column: u32) -> Result<(), OutOfMemory>
-    ensures { OnOk result (text.new ≡ text.old ++ words.field_place row column) }
+    ensures ok { OnOk result (text.new ≡ text.old ++ words.field_place row column) }
+    ensures err { OnErr result (HoldsFront text.old (words.field_place row column) text.new) }
 {
     put_with_number(text, b"row ", row)?;
     put_with_number(text, b" column ", column as u64)?;
@@ -27,14 +30,16 @@ fn put_place(text: &mut Bytes, row: u64, column: u32) -> Result<(), OutOfMemory>
 }
 
 fn put_field(text: &mut Bytes, row: u64, column: u32, fault: &FieldFault) -> Result<(), OutOfMemory>
-    ensures { OnOk result (text.new ≡ text.old ++ words.refused_field row column fault.now) }
+    ensures ok { OnOk result (text.new ≡ text.old ++ words.refused_field row column fault.now) }
+    ensures err { OnErr result (HoldsFront text.old (words.refused_field row column fault.now) text.new) }
 {
     put_place(text, row, column)?;
     put_field_why(text, fault)
 }
 
 fn put_state(text: &mut Bytes, row: u64, column: u32, why: StateWhy) -> Result<(), OutOfMemory>
-    ensures { OnOk result (text.new ≡ text.old ++ words.refused_state row column why) }
+    ensures ok { OnOk result (text.new ≡ text.old ++ words.refused_state row column why) }
+    ensures err { OnErr result (HoldsFront text.old (words.refused_state row column why) text.new) }
 {
     put_place(text, row, column)?;
     put_state_why(text, why)
@@ -44,9 +49,10 @@ fn put_state(text: &mut Bytes, row: u64, column: u32, why: StateWhy) -> Result<(
 ///
 /// # Errors
 ///
-/// [`OutOfMemory`] where there is no room; a front of the words may stand there then.
+/// [`OutOfMemory`] where there is no room; behind the old text stands a front of the words then.
 pub fn put_field_count(text: &mut Bytes, row: u64, want: u32, have: u64) -> Result<(), OutOfMemory>
-    ensures { OnOk result (text.new ≡ text.old ++ words.refused_count row want have) }
+    ensures ok { OnOk result (text.new ≡ text.old ++ words.refused_count row want have) }
+    ensures err { OnErr result (HoldsFront text.old (words.refused_count row want have) text.new) }
 {
     put_with_number(text, b"row ", row)?;
     put_with_number(text, b" has ", have)?;
@@ -54,7 +60,8 @@ pub fn put_field_count(text: &mut Bytes, row: u64, want: u32, have: u64) -> Resu
 }
 
 fn put_row(text: &mut Bytes, row: u64, why: &RowWhy) -> Result<(), OutOfMemory>
-    ensures { OnOk result (text.new ≡ text.old ++ words.refused_row row why.now) }
+    ensures ok { OnOk result (text.new ≡ text.old ++ words.refused_row row why.now) }
+    ensures err { OnErr result (HoldsFront text.old (words.refused_row row why.now) text.new) }
 {
     match why {
         RowWhy::Field { column, fault } => put_field(text, row, *column, fault),
@@ -74,7 +81,8 @@ fn size_words(size: Size) -> &'static [u8]
 
 /// What stands behind `error: `.
 fn put_status(text: &mut Bytes, status: &Status) -> Result<(), OutOfMemory>
-    ensures { OnOk result (text.new ≡ text.old ++ words.status_words status.now) }
+    ensures ok { OnOk result (text.new ≡ text.old ++ words.status_words status.now) }
+    ensures err { OnErr result (HoldsFront text.old (words.status_words status.now) text.new) }
 {
     match status {
         Status::Done | Status::WriteFault => Ok(()),
@@ -93,9 +101,10 @@ fn put_status(text: &mut Bytes, status: &Status) -> Result<(), OutOfMemory>
 ///
 /// # Errors
 ///
-/// [`OutOfMemory`] where there is no room; a front of the line may stand there then.
+/// [`OutOfMemory`] where there is no room; behind the old text stands a front of the line then.
 pub fn put_error_line(text: &mut Bytes, status: &Status) -> Result<(), OutOfMemory>
-    ensures { OnOk result (text.new ≡ text.old ++ words.error_line status.now) }
+    ensures ok { OnOk result (text.new ≡ text.old ++ words.error_line status.now) }
+    ensures err { OnErr result (HoldsFront text.old (words.error_line status.now) text.new) }
 {
     text.extend_from_slice(b"error: ")?;
     put_status(text, status)?;

@@ -1,6 +1,7 @@
 //! Why a field is refused, in words.
 ghost use Rattle.refusals.specs.Words as words;
-ghost use Rattle.std.specs.Prelude.{◌≡◌, ◌++◌, OnOk};
+ghost use Rattle.std.specs.Prelude.{◌≡◌, ◌++◌, OnErr, OnOk};
+ghost use Rattle.value_lists.specs.Fronts.{HoldsFront};
 
 use crate::pieces::{put_at, put_with_number};
 use crate::status::StateWhy;
@@ -9,7 +10,8 @@ use tsv_text::TextFault;
 use value_lists::{Bytes, OutOfMemory};
 
 fn put_escape_fault(text: &mut Bytes, fault: &TextFault) -> Result<(), OutOfMemory>
-    ensures { OnOk result (text.new ≡ text.old ++ words.escape_words fault.now) }
+    ensures ok { OnOk result (text.new ≡ text.old ++ words.escape_words fault.now) }
+    ensures err { OnErr result (HoldsFront text.old (words.escape_words fault.now) text.new) }
 {
     match fault {
         TextFault::LoneBackslash(place) => put_at(text, b"lone backslash", *place),
@@ -19,7 +21,8 @@ fn put_escape_fault(text: &mut Bytes, fault: &TextFault) -> Result<(), OutOfMemo
 }
 
 fn put_state_fault(text: &mut Bytes, fault: StateFault) -> Result<(), OutOfMemory>
-    ensures { OnOk result (text.new ≡ text.old ++ words.state_fault_words fault) }
+    ensures ok { OnOk result (text.new ≡ text.old ++ words.state_fault_words fault) }
+    ensures err { OnErr result (HoldsFront text.old (words.state_fault_words fault) text.new) }
 {
     match fault {
         StateFault::Version(version) => put_with_number(text, b"state version ", version as u64),
@@ -34,9 +37,10 @@ fn put_state_fault(text: &mut Bytes, fault: StateFault) -> Result<(), OutOfMemor
 ///
 /// # Errors
 ///
-/// [`OutOfMemory`] where there is no room; a front of the words may stand there then.
+/// [`OutOfMemory`] where there is no room; behind the old text stands a front of the words then.
 pub fn put_state_why(text: &mut Bytes, why: StateWhy) -> Result<(), OutOfMemory>
-    ensures { OnOk result (text.new ≡ text.old ++ words.state_words why) }
+    ensures ok { OnOk result (text.new ≡ text.old ++ words.state_words why) }
+    ensures err { OnErr result (HoldsFront text.old (words.state_words why) text.new) }
 {
     match why {
         StateWhy::NotHex { at } => put_at(text, b"bad hex", at),
@@ -48,9 +52,10 @@ pub fn put_state_why(text: &mut Bytes, why: StateWhy) -> Result<(), OutOfMemory>
 ///
 /// # Errors
 ///
-/// [`OutOfMemory`] where there is no room; a front of the words may stand there then.
+/// [`OutOfMemory`] where there is no room; behind the old text stands a front of the words then.
 pub fn put_field_why(text: &mut Bytes, fault: &FieldFault) -> Result<(), OutOfMemory>
-    ensures { OnOk result (text.new ≡ text.old ++ words.field_words fault.now) }
+    ensures ok { OnOk result (text.new ≡ text.old ++ words.field_words fault.now) }
+    ensures err { OnErr result (HoldsFront text.old (words.field_words fault.now) text.new) }
 {
     match fault {
         FieldFault::NotNumber => text.extend_from_slice(b"not a number"),

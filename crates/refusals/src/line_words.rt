@@ -1,6 +1,7 @@
 //! Why a line is refused, in words.
 ghost use Rattle.refusals.specs.Words as words;
-ghost use Rattle.std.specs.Prelude.{◌≡◌, ◌++◌, OnOk};
+ghost use Rattle.std.specs.Prelude.{◌≡◌, ◌++◌, OnErr, OnOk};
+ghost use Rattle.value_lists.specs.Fronts.{HoldsFront};
 
 use crate::chain_words::put_chain_fault;
 use crate::pieces::{put_at, put_with_number};
@@ -34,7 +35,8 @@ fn put_part_fault(
     part: u32,
     fault: ChainFault,
 ) -> Result<(), OutOfMemory>
-    ensures { OnOk result (text.new ≡ text.old ++ words.part_fault_words line part fault) }
+    ensures ok { OnOk result (text.new ≡ text.old ++ words.part_fault_words line part fault) }
+    ensures err { OnErr result (HoldsFront text.old (words.part_fault_words line part fault) text.new) }
 {
     put_with_number(text, part_words(line), part as u64)?;
     text.extend_from_slice(b": ")?;
@@ -46,9 +48,10 @@ fn put_part_fault(
 ///
 /// # Errors
 ///
-/// [`OutOfMemory`] where there is no room; a front of the words may stand there then.
+/// [`OutOfMemory`] where there is no room; behind the old text stands a front of the words then.
 pub fn put_line_why(text: &mut Bytes, line: u64, why: Why) -> Result<(), OutOfMemory>
-    ensures { OnOk result (text.new ≡ text.old ++ words.line_words line why) }
+    ensures ok { OnOk result (text.new ≡ text.old ++ words.line_words line why) }
+    ensures err { OnErr result (HoldsFront text.old (words.line_words line why) text.new) }
 {
     match why {
         Why::Syntax(place) => put_at(text, b"syntax", place),

@@ -1,13 +1,15 @@
 //! The small pieces that every text is made of.
 ghost use Rattle.refusals.specs.Words.{at, with_number};
 ghost use Rattle.std.specs.Fmt.{decimal};
-ghost use Rattle.std.specs.Prelude.{◌≡◌, ◌++◌, OnOk};
+ghost use Rattle.std.specs.Prelude.{◌≡◌, ◌++◌, OnErr, OnOk};
+ghost use Rattle.value_lists.specs.Fronts.{HoldsFront};
 
 use itoa::Buffer;
 use value_lists::{Bytes, OutOfMemory};
 
 pub(crate) fn put_number(text: &mut Bytes, number: u64) -> Result<(), OutOfMemory>
-    ensures { OnOk result (text.new ≡ text.old ++ decimal number) }
+    ensures ok { OnOk result (text.new ≡ text.old ++ decimal number) }
+    ensures err { OnErr result (HoldsFront text.old (decimal number) text.new) }
 {
     let mut buffer = Buffer::new();
     text.extend_from_slice(buffer.format(number).as_bytes())
@@ -19,7 +21,8 @@ pub(crate) fn put_with_number(
     words: &[u8],
     number: u64,
 ) -> Result<(), OutOfMemory>
-    ensures { OnOk result (text.new ≡ text.old ++ with_number words.now number) }
+    ensures ok { OnOk result (text.new ≡ text.old ++ with_number words.now number) }
+    ensures err { OnErr result (HoldsFront text.old (with_number words.now number) text.new) }
 {
     text.extend_from_slice(words)?;
     put_number(text, number)
@@ -27,7 +30,8 @@ pub(crate) fn put_with_number(
 
 /// Words, and the place that they speak of.
 pub(crate) fn put_at(text: &mut Bytes, words: &[u8], place: u64) -> Result<(), OutOfMemory>
-    ensures { OnOk result (text.new ≡ text.old ++ at words.now place) }
+    ensures ok { OnOk result (text.new ≡ text.old ++ at words.now place) }
+    ensures err { OnErr result (HoldsFront text.old (at words.now place) text.new) }
 {
     text.extend_from_slice(words)?;
     put_with_number(text, b" at ", place)

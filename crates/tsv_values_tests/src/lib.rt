@@ -1,6 +1,9 @@
 //! What no contract says of fields: that with memory at hand each call succeeds, and that each fault is told at its place
-//! as the documents have it. Each module has the tests of a subject.
+//! as the documents have it. Each module has the tests of a subject; `uses` has
+//! what the laws of fields are for.
 #![tactic(auto)]
+
+mod uses;
 
 #[cfg(test)]
 mod faults;
@@ -19,3 +22,4 @@ mod values;
 mod writing;
 
 pub use number_lists::number_lists_are_read_back;
+pub use uses::read_twice;
