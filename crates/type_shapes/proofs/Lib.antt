@@ -12,3 +12,4 @@ mod TokensBack
 mod Printed
 mod PrintedTypes
 mod RoundTrip
+pub mod OneShape

@@ -39,7 +39,7 @@ some_is : (a b : Shape) → (let o : Option Shape = Some a in o) ≡ Some b → 
 some_is a b e = cc
 
 mutual
-  one_shape : HasOneAnswer → (w : Written) (s r : Shape) → Spells w s → Spells w r → s ≡ r
+  pub one_shape : HasOneAnswer → (w : Written) (s r : Shape) → Spells w s → Spells w r → s ≡ r
   one_shape law (plain name) s r h g = some_is s r (sym h ∙ g)
   one_shape law (array ty) (Arr s) (Arr r) h g = ap Arr (one_shape law ty s r h g)
   one_shape law (array ty) (Arr s) r h g = absurd g

@@ -1,5 +1,6 @@
 //! What holds of the texts of types, as contracts of functions that do nothing.
 
+ghost use Rattle.type_shapes.specs.OneShape.{OneShapeAnswer};
 ghost use Rattle.type_shapes.specs.ReadsBack.{TypesReadBack};
 
 use tsv_text::{law_one_answer, law_round_trip};
@@ -12,5 +13,13 @@ pub fn law_types_read_back()
 {
     law_one_answer();
     law_round_trip();
+    law_one_type();
+}
+
+/// What [`read_type_shape`](crate::read_type_shape) says of a text leaves no choice: the text has one shape, or one fault.
+pub fn law_one_shape()
+    ensures { OneShapeAnswer }
+{
+    law_one_answer();
     law_one_type();
 }

@@ -11,7 +11,7 @@ mod plain;
 mod reading;
 mod shape;
 
-pub use laws::law_types_read_back;
+pub use laws::{law_one_shape, law_types_read_back};
 pub use literal::{has_minus, integer, literal as read_literal};
 pub use mark::{Mark, is_mark};
 pub use reading::{read_front, read_type_shape};
