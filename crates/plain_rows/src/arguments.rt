@@ -1,8 +1,9 @@
 //! Rows, and the arguments of a row.
-ghost use Rattle.std.specs.Prelude.{◌≡◌, ◌++◌, filter, IfOk, map, not, OnOk};
+ghost use Rattle.std.specs.Prelude.{◌≡◌, ◌++◌, filter, IfOk, map, not, OnErr, OnOk};
 ghost use Rattle.agg_terms.specs.Values.{Nil};
 ghost use Rattle.agg_meaning.specs.Feeds.{no_null};
 ghost use Rattle.agg_meaning.specs.Functions as terms;
+ghost use Rattle.value_lists.specs.Fronts.{HoldsFront};
 ghost use Rattle.value_types.specs.Folds.{value_of};
 ghost use Rattle.plain_rows.specs.Rows.{first_number, row_of, rows_of};
 
@@ -81,12 +82,17 @@ pub fn live_rows(alloc: Global, rows: &[Seq<Value>]) -> Result<Seq<Seq<Value>>, 
 }
 
 /// Adds copies of these values at the end of a list.
+///
+/// # Errors
+///
+/// [`OutOfMemory`] where there is no room; behind what stood there stand copies of the first values then.
 pub fn push_values(
     alloc: Global,
     values: &[Value],
     into: &mut Seq<Value>,
 ) -> Result<(), OutOfMemory>
-    ensures { OnOk result (into.new ≡ into.old ++ values.now) }
+    ensures ok { OnOk result (into.new ≡ into.old ++ values.now) }
+    ensures err { OnErr result (HoldsFront into.old values.now into.new) }
 {
     for value in values {
         into.push(value.copy(alloc)?)?;
@@ -95,12 +101,17 @@ pub fn push_values(
 }
 
 /// Adds copies of these rows at the end of a list.
+///
+/// # Errors
+///
+/// [`OutOfMemory`] where there is no room; behind what stood there stand copies of the first rows then.
 pub fn push_rows(
     alloc: Global,
     rows: &[Seq<Value>],
     into: &mut Seq<Seq<Value>>,
 ) -> Result<(), OutOfMemory>
-    ensures { OnOk result (into.new ≡ into.old ++ rows.now) }
+    ensures ok { OnOk result (into.new ≡ into.old ++ rows.now) }
+    ensures err { OnErr result (HoldsFront into.old rows.now into.new) }
 {
     for row in rows {
         into.push(copy_row(alloc, row.as_slice())?)?;
