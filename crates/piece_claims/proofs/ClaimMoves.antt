@@ -13,7 +13,7 @@ use Rattle.piece_claims.specs.declared.board.Slot.{Slot}
 use Rattle.piece_claims.specs.declared.board.Slot.TheVariants.{Ready}
 use Rattle.piece_claims.specs.declared.board.Stage.TheVariants.{Spent, Free, Holds}
 use Rattle.piece_claims.specs.declared.board.Worker.{Worker}
-use Rattle.piece_claims.specs.Rule.{one_at, lists, holding, times, unspent_of, busy, busy_of, quota_of, done_of, Knows, Claimed, Claims}
+use Rattle.piece_claims.specs.proving.Rule.{one_at, lists, holding, times, unspent_of, busy, busy_of, quota_of, done_of, Knows, Claimed, Claims}
 use Rattle.piece_claims.proofs.Sums.{there, each_set, sum_set, sum_same, sum_at, one_same, one_other}
 use Rattle.piece_claims.proofs.Seats.{free_live, holds_live, free_holds, number_or, job_or, nowhere, slot_else, one_later}
 

@@ -14,7 +14,7 @@ use Rattle.piece_claims.specs.declared.board.Slot.{Slot}
 use Rattle.piece_claims.specs.declared.board.Slot.TheVariants.{Ready, Done}
 use Rattle.piece_claims.specs.declared.board.Stage.TheVariants.{Spent, Free, Holds}
 use Rattle.piece_claims.specs.declared.board.Worker.{Worker}
-use Rattle.piece_claims.specs.Rule.{one_at, lists, holding, times, unspent, unspent_of, busy, busy_of, quota_of, done_of, IsDone, Knows, Claimed, Counts}
+use Rattle.piece_claims.specs.proving.Rule.{one_at, lists, holding, times, unspent, unspent_of, busy, busy_of, quota_of, done_of, IsDone, Knows, Claimed, Counts}
 use Rattle.piece_claims.proofs.Sums.{below_length, each_set, sum_set, sum_same, sum_at, one_same, one_other}
 use Rattle.piece_claims.proofs.Seats.{free_live, holds_live, free_holds, number_or, holding_one, below_next, elsewhere, slot_else}
 

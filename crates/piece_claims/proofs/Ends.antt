@@ -14,7 +14,7 @@ use Rattle.piece_claims.specs.declared.board.Slot.TheVariants.{Ready, Done}
 use Rattle.piece_claims.specs.declared.board.Stage.{Stage}
 use Rattle.piece_claims.specs.declared.board.Stage.TheVariants.{Spent, Free, Holds}
 use Rattle.piece_claims.specs.declared.board.Worker.{Worker}
-use Rattle.piece_claims.specs.Rule.{lists, holding, times, unspent, unspent_of, IsDone, Knows, Claimed, IsOver, opener}
+use Rattle.piece_claims.specs.proving.Rule.{lists, holding, times, unspent, unspent_of, IsDone, Knows, Claimed, IsOver, opener}
 use Rattle.piece_claims.proofs.Sums.{below_length, sum_only, sum_two}
 use Rattle.piece_claims.proofs.Seats.{free_holds, unspent_one}
 

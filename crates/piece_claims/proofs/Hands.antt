@@ -5,7 +5,7 @@ use Rattle.piece_claims.specs.declared.board.Slot.{Slot}
 use Rattle.piece_claims.specs.declared.board.Slot.TheVariants.{Ready, Taken, Done}
 use Rattle.piece_claims.specs.declared.board.Stage.TheVariants.{Free, Holds}
 use Rattle.piece_claims.specs.declared.board.Worker.{Worker}
-use Rattle.piece_claims.specs.Rule.{HasTaken, HasReturned}
+use Rattle.piece_claims.specs.proving.Rule.{HasTaken, HasReturned}
 
 abbrev job_of : {J X : Type 0} → J → Slot J X → J
 job_of d (Ready job) = job

@@ -12,7 +12,7 @@ use Rattle.atomic_table.proofs.Lists.{set_else, at_snoc}
 use Rattle.piece_claims.specs.declared.board.Slot.{Slot}
 use Rattle.piece_claims.specs.declared.board.Stage.TheVariants.{Spent, Free, Holds}
 use Rattle.piece_claims.specs.declared.board.Worker.{Worker}
-use Rattle.piece_claims.specs.Rule.{one_at, lists, holding, times, unspent, unspent_of, busy, busy_of, quota_of, done_of, Knows, Claimed, parted, newcomer, joined, nobody}
+use Rattle.piece_claims.specs.proving.Rule.{one_at, lists, holding, times, unspent, unspent_of, busy, busy_of, quota_of, done_of, Knows, Claimed, parted, newcomer, joined, nobody}
 use Rattle.piece_claims.proofs.Sums.{each_set, sum_set, sum_same, sum_at, sum_two}
 use Rattle.piece_claims.proofs.Seats.{free_live, free_holds}
 

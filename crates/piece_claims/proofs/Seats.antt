@@ -12,7 +12,7 @@ use Rattle.piece_claims.specs.declared.board.Slot.{Slot}
 use Rattle.piece_claims.specs.declared.board.Stage.{Stage}
 use Rattle.piece_claims.specs.declared.board.Stage.TheVariants.{Spent, Free, Holds}
 use Rattle.piece_claims.specs.declared.board.Worker.{Worker}
-use Rattle.piece_claims.specs.Rule.{lists, holding, times, unspent, busy, IsDone, Knows, Claimed}
+use Rattle.piece_claims.specs.proving.Rule.{lists, holding, times, unspent, busy, IsDone, Knows, Claimed}
 use Rattle.piece_claims.proofs.Sums.{sum_at, sum_two, one_same}
 
 pub free_live : {J : Type 0} → (let f : Stage J = Free in f) ≡ Spent → ⊥

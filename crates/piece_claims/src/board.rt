@@ -44,7 +44,7 @@ pub struct Claiming<J> {
 impl<J: Job> TableRule<Slot<J, Result<J::Out, JobFault<J::Fault>>>, Worker<J>, Snapshot<Vec<J>>>
     for Claiming<J> {
     ghost use Rattle.piece_claims.specs.Jobs.{Answers};
-    ghost use Rattle.piece_claims.specs.Rule.{Claimed, opener};
+    ghost use Rattle.piece_claims.specs.proving.Rule.{Claimed, opener};
 
     ghost holds = { λ key. Claimed (Answers J.gives J.fault) key.value.items };
 
@@ -63,7 +63,7 @@ pub type Board<J> = Table<Slot<J, Outcome<J>>, Worker<J>, Snapshot<Vec<J>>, Clai
 pub(crate) struct Claim;
 
 impl<J, X> Play<Slot<J, X>, Worker<J>> for Claim {
-    ghost use Rattle.piece_claims.specs.Rule.{Claims};
+    ghost use Rattle.piece_claims.specs.proving.Rule.{Claims};
 
     ghost then = { Claims };
 }
@@ -72,7 +72,7 @@ impl<J, X> Play<Slot<J, X>, Worker<J>> for Claim {
 pub(crate) struct Count;
 
 impl<J, X> Play<Slot<J, X>, Worker<J>> for Count {
-    ghost use Rattle.piece_claims.specs.Rule.{Counts};
+    ghost use Rattle.piece_claims.specs.proving.Rule.{Counts};
 
     ghost then = { Counts };
 }
@@ -94,7 +94,7 @@ pub(crate) struct Cut<Q> {
 }
 
 impl<J, Q: Part> Split<Worker<J>> for Cut<Q> {
-    ghost use Rattle.piece_claims.specs.Rule.{parted, newcomer};
+    ghost use Rattle.piece_claims.specs.proving.Rule.{parted, newcomer};
 
     ghost left = { parted Q.part };
 
@@ -105,7 +105,7 @@ impl<J, Q: Part> Split<Worker<J>> for Cut<Q> {
 pub(crate) struct Glue;
 
 impl<J> Join<Worker<J>> for Glue {
-    ghost use Rattle.piece_claims.specs.Rule.{joined, nobody};
+    ghost use Rattle.piece_claims.specs.proving.Rule.{joined, nobody};
 
     ghost both = { joined };
 

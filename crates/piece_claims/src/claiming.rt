@@ -3,7 +3,7 @@ ghost use Rattle.std.specs.Prelude.{◌≡◌, ◌≤◌, ◌<◌, ◌^◌, [], 
 ghost use Rattle.std.specs.List.{AllZip};
 ghost use Rattle.piece_claims.specs.Jobs.{Answers, Gives, Refuses, Stops};
 ghost use Rattle.piece_claims.specs.declared.board.Slot.TheVariants.{Ready};
-ghost use Rattle.piece_claims.specs.Rule.{IsAt, IsOver};
+ghost use Rattle.piece_claims.specs.proving.Rule.{IsAt, IsOver};
 ghost use Rattle.std.specs.declared.result.Result.TheVariants.{Ok};
 
 use crate::board::{Board, Outcome, Place, Slot};

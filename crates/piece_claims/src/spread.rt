@@ -2,7 +2,7 @@
 ghost use Rattle.std.specs.Prelude.{◌≡◌, ◌+◌, ◌-◌, ◌^◌, ◌<◌, [], true, length};
 ghost use Rattle.piece_claims.specs.declared.board.Stage.TheVariants.{Free};
 ghost use denote.Param.Send.{IsSync};
-ghost use Rattle.piece_claims.specs.Rule.{IsAt, IsReady, IsRoot, HasEnded, parted, newcomer};
+ghost use Rattle.piece_claims.specs.proving.Rule.{IsAt, IsReady, IsRoot, HasEnded, parted, newcomer};
 
 use crate::board::{Cut, Glue, Part, Place, SharedBoard};
 use crate::job::Job;

@@ -3,7 +3,7 @@ ghost use Rattle.std.specs.Prelude.{◌≡◌, ◌∷◌, [], length, MatchOptio
 ghost use Rattle.piece_claims.specs.declared.board.Slot.TheVariants.{Taken};
 ghost use Rattle.piece_claims.specs.declared.board.Stage.TheVariants.{Holds};
 ghost use Rattle.piece_claims.specs.Jobs.{Answers};
-ghost use Rattle.piece_claims.specs.Rule.{IsAt, IsReady, HasTaken, HasReturned, HasEnded};
+ghost use Rattle.piece_claims.specs.proving.Rule.{IsAt, IsReady, HasTaken, HasReturned, HasEnded};
 
 use crate::board::{Claim, Count, Outcome, Place, SharedBoard, Slot};
 use crate::job::Job;

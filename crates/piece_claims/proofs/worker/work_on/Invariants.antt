@@ -1,5 +1,5 @@
 use Rattle.std.proofs.Common.{◌≡◌}
-use Rattle.piece_claims.specs.Rule.{IsReady, IsAsRooted}
+use Rattle.piece_claims.specs.proving.Rule.{IsReady, IsAsRooted}
 use Rattle.piece_claims.proofs.worker.work_on.Given as goal
 
 abbrev pub invariant-loop-number : goal.invariant-loop-number
