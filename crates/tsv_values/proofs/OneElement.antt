@@ -10,8 +10,8 @@ use Rattle.scalar_texts.specs.Numbers.{number_value}
 use Rattle.scalar_texts.specs.States.{ReadsStates}
 use Rattle.scalar_texts.specs.declared.fault.FieldFault.{FieldFault}
 use Rattle.tsv_values.specs.Elements.{ArraySays, Behind, ElementSays, EntrySays, ListSays, MapSays, MoreSay, NumberSays, OpenedSay, QuotedSays, Said, all_of, array_of, entry_of, map_of, ranged}
-use Rattle.tsv_values.specs.Reading.{IsAhead, behind_quote}
-use Rattle.tsv_values.specs.Steps.{Step, one_more, ends, neither, after_spaces, first_step, more_step}
+use Rattle.tsv_values.specs.proving.Reading.{IsAhead, behind_quote}
+use Rattle.tsv_values.specs.proving.Steps.{Step, one_more, ends, neither, after_spaces, first_step, more_step}
 use Rattle.tsv_values.proofs.Closing.{inside-append}
 use Rattle.tsv_values.proofs.Beginnings.{element_begins, entry_begins}
 use Rattle.tsv_values.proofs.ElementKinds.{behind_at, element_letter, letter_at}

@@ -21,7 +21,7 @@ use Rattle.scalar_texts.specs.declared.fault.FieldFault.TheVariants.{NotNumber, 
 use Rattle.tsv_values.specs.Answer.{IsArrayAnswer, IsFieldAnswer, IsFilledAnswer, IsMapAnswer, IsSameAnswer, IsTold}
 use Rattle.tsv_values.specs.Elements.{FieldSays, Said, ranged}
 use Rattle.tsv_values.specs.OneAnswer.{OneFieldAnswer}
-use Rattle.tsv_values.specs.Steps.{after_spaces}
+use Rattle.tsv_values.specs.proving.Steps.{after_spaces}
 use Rattle.tsv_values.proofs.OneElement.{one_element}
 use Rattle.tsv_values.proofs.Quoted.{OneText}
 use Rattle.tsv_values.proofs.Syntactic.{field_syntax}

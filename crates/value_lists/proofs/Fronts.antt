@@ -2,7 +2,7 @@
 use Rattle.std.proofs.Common.{◌≡◌, ℕ, zero, suc, ◌+◌, List, [], ◌∷◌, ◌++◌, length, take, refl, sym, ap, ◌∙◌, append_assoc}
 use Rattle.std.proofs.lemmas.List.{append-nil}
 use Rattle.std.proofs.Math.Seq.{take-append-add}
-use Rattle.value_lists.specs.proving.Fronts.{HoldsFront}
+use Rattle.value_lists.specs.Fronts.{HoldsFront}
 
 -- no more than there are
 abbrev at_most : {X : Type 0} → List X → ℕ → ℕ

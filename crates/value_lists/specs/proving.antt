@@ -1,2 +1,0 @@
--- What only serves proofs: no public contract stands on it.
-pub mod Fronts
