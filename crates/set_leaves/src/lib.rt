@@ -22,3 +22,4 @@ mod state;
 
 pub use served::serves;
 pub use state::SetState;
+pub use tuple::Tuple;
