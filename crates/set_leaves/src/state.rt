@@ -1,5 +1,5 @@
 //! The state of uniqExact: its different rows.
-ghost use Rattle.std.specs.Prelude.{◌≡◌, [], IfOk, OnErr, OnOk, map, pos, true};
+ghost use Rattle.std.specs.Prelude.{◌≡◌, [], IfOk, IsOk, OnErr, OnOk, map, pos, true};
 ghost use Rattle.agg_terms.specs.Chains.{Of};
 ghost use Rattle.agg_terms.specs.Trees.{IsTree};
 ghost use Rattle.agg_terms.specs.Values.{Num, rows_of};
@@ -115,7 +115,8 @@ impl SetState {
     ///
     /// None here: a number takes no room.
     pub fn finish(&self, _alloc: Global) -> Result<Value, OutOfMemory>
-        ensures { IfOk result (λ v. Means (held self.now) (value_of v)) }
+        ensures always { IsOk result }
+        ensures means { IfOk result (λ v. Means (held self.now) (value_of v)) }
     {
         Ok(counted(self.rows.len()))
     }
