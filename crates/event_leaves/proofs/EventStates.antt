@@ -15,7 +15,8 @@ use Rattle.agg_meaning.specs.Functions.{unless_none}
 use Rattle.agg_meaning.specs.Lawful.{IsTime, TakesTime}
 use Rattle.agg_meaning.proofs.Kept.{each_ascending, each_filter, each_append}
 use Rattle.agg_meaning.proofs.LeafTrees.{each_weaker}
-use Rattle.event_leaves.specs.Kept.{IsKept, Kept, event_tree, has_rows, joined, kept_of, stored_events, with_row, within}
+use Rattle.window_funnel.specs.Conditions.{cut_to}
+use Rattle.event_leaves.specs.Kept.{IsKept, Kept, event_tree, has_rows, joined, kept_of, stored_events, with_row}
 use Rattle.event_leaves.specs.Rows.{event_read}
 use Rattle.event_leaves.proofs.InOrder.{apart, in_order, ordered_is}
 
@@ -128,20 +129,20 @@ kept_joined k l es s u c h = record {
     second true c i = absurd (true≢false i)
     second false c i = i
 
-cut_fits : (n : ℕ) (es : List Event) → Each (λ f. f.mask < 2 ^ n) (map (within n) es)
+cut_fits : (n : ℕ) (es : List Event) → Each (λ f. f.mask < 2 ^ n) (map (cut_to n) es)
 cut_fits n [] = tt
 cut_fits n (e ∷ es) = (mod-lt e.mask (pow_pos n), cut_fits n es)
 
-pub kept_stored : (n : ℕ) (t : Tree) (b : Bool) (es : List Event) → 1 ≤ n → n ≤ 32 → b ≡ has_rows t → es ≡ ascending by_time (map (within n) (stored_events t)) →
+pub kept_stored : (n : ℕ) (t : Tree) (b : Bool) (es : List Event) → 1 ≤ n → n ≤ 32 → b ≡ has_rows t → es ≡ ascending by_time (map (cut_to n) (stored_events t)) →
     IsKept (record { conditions = n; is_fed = b; events = es })
 kept_stored n t b es some most e h = record {
   some = some;
   most = most;
-  ordered = subst (NotFalling by_time) (sym h) (in_order (map (within n) (stored_events t)));
+  ordered = subst (NotFalling by_time) (sym h) (in_order (map (cut_to n) (stored_events t)));
   within =
       subst (Each (λ f. f.mask < 2 ^ n)) (sym h)
-      (each_ascending (λ f. f.mask < 2 ^ n) by_time (map (within n) (stored_events t)) (cut_fits n (stored_events t)));
-  blank = λ i. h ∙ ap (λ x. ascending by_time (map (within n) x)) (none t (sym e ∙ i));
+      (each_ascending (λ f. f.mask < 2 ^ n) by_time (map (cut_to n) (stored_events t)) (cut_fits n (stored_events t)));
+  blank = λ i. h ∙ ap (λ x. ascending by_time (map (cut_to n) x)) (none t (sym e ∙ i));
 }
   where
     none : (t : Tree) → has_rows t ≡ false → stored_events t ≡ []
@@ -149,7 +150,7 @@ kept_stored n t b es some most e h = record {
     none _ i = refl
 
 -- a tree's events
-within_is : (n : ℕ) (es : List Event) → Each (IsEvent n) es → map (within n) es ≡ es
+within_is : (n : ℕ) (es : List Event) → Each (IsEvent n) es → map (cut_to n) es ≡ es
 within_is n [] k = refl
 within_is n (e ∷ es) k = ap₂ ◌∷◌ (ap (λ m. record { time = e.time; mask = m }) (mod-eq_of_lt k.0.2)) (within_is n es k.1)
 

@@ -6,13 +6,15 @@ use Rattle.agg_terms.specs.Lists.{is_empty}
 use Rattle.agg_terms.specs.Order.{ascending}
 use Rattle.agg_terms.specs.Trees.{IsEventTree, IsLeafTree, by_time}
 use Rattle.agg_terms.specs.Types.{conditions}
-use Rattle.agg_terms.specs.Values.{Events, Num, Tree, Value}
+use Rattle.agg_terms.specs.Values.{Event, Events, Num, Tree, Value}
 use Rattle.agg_meaning.specs.Events.{events, funnel_level, is_some_mask, time_of}
 use Rattle.agg_meaning.specs.Feeds.{IsLeafFeed, no_null}
 use Rattle.agg_meaning.specs.Functions.{leaf_normal, unless_none}
 use Rattle.agg_meaning.specs.Lawful.{TakesTypes}
 use Rattle.agg_meaning.specs.States.{Held, IsFedBy, Means, Stands, TakesRow, TakesState, made_for}
 use Rattle.agg_meaning.specs.Suffixes.{fed, meaning, normal}
+use Rattle.window_funnel.specs.Conditions.{cut_to}
+use Rattle.window_funnel.proofs.Cuts.{cut_same}
 use Rattle.event_leaves.specs.Funnels.{funnel_held}
 use Rattle.event_leaves.specs.Kept.{IsKept, Kept, event_tree, joined, kept_of, no_rows, with_row}
 use Rattle.event_leaves.specs.Rows.{argument, event_read}
@@ -115,14 +117,20 @@ pub items_taken : (s t : Held) (items : List Item) (r : List coded.Value) → ma
 items_taken s t items r e h = subst (λ l. TakesRow s l t) (sym (map-map value_of item_value items) ∙ ap (map value_of) e) h
 
 -- the level
-pub level_means : (window : ℕ) (strict : Bool) (k : Kept) (v : Value) → IsKept k → v ≡ Num (pos (funnel_level window strict k.events)) → Means (funnel_held window strict k) v
+pub level_means : (window : ℕ) (strict : Bool) (k : Kept) (v : Value) → IsKept k → v ≡ Num (pos (funnel_level window strict (map (cut_to k.conditions) k.events))) → Means (funnel_held window strict k) v
 level_means window strict k v s e f ts L g a =
     e
-    ∙ ap (λ es. Num (pos (funnel_level window strict es))) (at_events (conditions ts) k L s tree).1
+    ∙ ap (λ es. Num (pos (funnel_level window strict es))) (cut_same k.conditions k.events s.within ∙ (at_events (conditions ts) k L s tree).1)
     ∙ ap (λ h. meaning (Of h) ts L) (ap (λ m. m.leaf) a.0)
   where
     tree : event_tree k.is_fed k.events ≡ leaf_normal (WindowFunnel window strict) ts (filter no_null L)
     tree = subst (λ h. event_tree k.is_fed k.events ≡ leaf_normal h ts (filter no_null L)) (sym (ap (λ m. m.leaf) a.0)) a.1
+
+-- as the code has it: what is kept is known by equations
+pub level_known : (window : ℕ) (strict : Bool) (k : Kept) (n level : ℕ) (es : List Event) (v : Value) → IsKept k → n ≡ k.conditions → es ≡ k.events → level ≡ funnel_level window strict (map (cut_to n) es) → v ≡ Num (pos level) →
+    Means (funnel_held window strict k) v
+level_known window strict k n level es v s c h l e =
+    level_means window strict k v s (e ∙ ap (λ m. Num (pos m)) (l ∙ ap₂ (λ m fs. funnel_level window strict (map (cut_to m) fs)) c h))
 
 pub fed_is : (window : ℕ) (strict : Bool) (k : Kept) → IsKept k → IsFedBy (funnel_held window strict k) k.is_fed
 fed_is window strict k s f ts L a =

@@ -1,10 +1,11 @@
 -- What is kept of rows over events: whether there was one, and the events of those that meet some condition, by time.
-use Rattle.std.specs.Prelude.{◌≡◌, ℕ, ◌<◌, ◌≤◌, ◌%◌, ◌^◌, Bool, true, false, cond, ◌||◌, List, [], ◌∷◌, ◌++◌, filter, map}
+use Rattle.std.specs.Prelude.{◌≡◌, ℕ, ◌<◌, ◌≤◌, ◌^◌, Bool, true, false, cond, ◌||◌, List, [], ◌∷◌, ◌++◌, filter, map}
 use Rattle.agg_terms.specs.Lists.{Each, NotFalling}
 use Rattle.agg_terms.specs.Order.{ascending}
 use Rattle.agg_terms.specs.Trees.{by_time}
 use Rattle.agg_terms.specs.Values.{Empty, Event, Events, Tree, Value}
 use Rattle.agg_meaning.specs.Events.{is_some_mask}
+use Rattle.window_funnel.specs.Conditions.{cut_to}
 use Rattle.event_leaves.specs.Rows.{event_read}
 
 -- what is kept of rows of a time and so many conditions
@@ -54,10 +55,6 @@ abbrev pub stored_events : Tree → List Event
 stored_events (Events es) = es
 stored_events _ = []
 
--- an event without the conditions beyond n
-abbrev pub within : ℕ → Event → Event
-within n e = record { time = e.time; mask = e.mask % 2 ^ n }
-
 -- what is kept of the rows of a tree
 abbrev pub kept_of : ℕ → Tree → Kept
-kept_of n t = record { conditions = n; is_fed = has_rows t; events = ascending by_time (map (within n) (stored_events t)) }
+kept_of n t = record { conditions = n; is_fed = has_rows t; events = ascending by_time (map (cut_to n) (stored_events t)) }

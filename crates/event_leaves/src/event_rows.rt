@@ -4,7 +4,8 @@ ghost use Rattle.agg_terms.specs.Lists.{Each, NotFalling};
 ghost use Rattle.agg_terms.specs.Order.{ascending};
 ghost use Rattle.agg_terms.specs.Trees.{by_time};
 ghost use Rattle.value_types.specs.Folds.{event_of, tree_of};
-ghost use Rattle.event_leaves.specs.Kept.{IsKept, Kept, event_tree, joined, kept_of, no_rows, stored_events, has_rows, with_row, within};
+ghost use Rattle.window_funnel.specs.Conditions.{cut_to};
+ghost use Rattle.event_leaves.specs.Kept.{IsKept, Kept, event_tree, joined, kept_of, no_rows, stored_events, has_rows, with_row};
 ghost use Rattle.event_leaves.specs.Rows.{argument};
 
 use crate::event_list::{add, insert, merge};
@@ -176,7 +177,7 @@ fn tree_events(tree: &Tree) -> &[Event]
 /// An event without the conditions beyond so many.
 fn cut(conditions: u32, event: Event) -> Event
     requires { conditions ≤ 32 }
-    ensures { event_of result ≡ within conditions (event_of event) }
+    ensures { event_of result ≡ cut_to conditions (event_of event) }
 {
     let beyond = 1u64 << conditions;
     Event {
@@ -188,7 +189,7 @@ fn cut(conditions: u32, event: Event) -> Event
 /// The events by time, each without the conditions beyond so many.
 fn in_order(alloc: Global, conditions: u32, events: &[Event]) -> Result<Vec<Event>, OutOfMemory>
     requires { conditions ≤ 32 }
-    ensures { IfOk result (λ all. map event_of all.items ≡ ascending by_time (map (within conditions) (map event_of events.now))) }
+    ensures { IfOk result (λ all. map event_of all.items ≡ ascending by_time (map (cut_to conditions) (map event_of events.now))) }
 {
     let mut all = Vec::with_capacity(alloc, events.len())?;
     for event in events {

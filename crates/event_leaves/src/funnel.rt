@@ -1,7 +1,8 @@
 //! The state of windowFunnel: the events of its rows, by time.
-ghost use Rattle.std.specs.Prelude.{◌≡◌, ◌+◌, ◌≤◌, [], length, map, true, IfOk, OnErr, OnOk};
+ghost use Rattle.std.specs.Prelude.{◌≡◌, ◌+◌, ◌≤◌, [], length, map, pos, true, IfOk, IsOk, OnErr, OnOk};
 ghost use Rattle.agg_terms.specs.Chains.{Of, WindowFunnel};
 ghost use Rattle.agg_terms.specs.Trees.{IsTree};
+ghost use Rattle.agg_terms.specs.Values.{Num};
 ghost use Rattle.agg_meaning.specs.States.{IsFedBy, Means, Stands, TakesRow, TakesState, made_for};
 ghost use Rattle.value_types.specs.Folds.{leaf_of, tree_of, ty_of, value_of};
 ghost use Rattle.event_leaves.specs.Funnels.{held};
@@ -47,6 +48,14 @@ fn funnel_of(leaf: &Leaf) -> Funnel
             is_strict: false,
         },
     }
+}
+
+/// A level, as a value.
+#[tactic(auto, using(value_types::proofs::FoldLaws::value_laws))]
+fn as_value(level: u32) -> Value
+    ensures { value_of result ≡ Num (pos level) }
+{
+    Value::Num(i128::from(level))
 }
 
 impl FunnelState {
@@ -111,13 +120,13 @@ impl FunnelState {
     /// # Errors
     ///
     /// None here: a number takes no room.
-    #[tactic(auto, using(value_types::proofs::FoldLaws::value_laws))]
     pub fn finish(&self, _alloc: Global) -> Result<Value, OutOfMemory>
-        ensures { IfOk result (λ v. Means (held self.now) (value_of v)) }
+        ensures always { IsOk result }
+        ensures means { IfOk result (λ v. Means (held self.now) (value_of v)) }
     {
         let conditions = self.rows.conditions();
         let level = level(self.window, self.is_strict, conditions, self.rows.events());
-        Ok(Value::Num(i128::from(level)))
+        Ok(as_value(level))
     }
 
     /// Whether a row reached the function.

@@ -1,5 +1,5 @@
 //! The state of sequenceMatch: a pattern, and the events of its rows, by time.
-ghost use Rattle.std.specs.Prelude.{◌≡◌, ◌+◌, ◌≤◌, [], length, map, true, IfOk, OnErr, OnOk};
+ghost use Rattle.std.specs.Prelude.{◌≡◌, ◌+◌, ◌≤◌, [], length, map, true, IfOk, IsOk, OnErr, OnOk};
 ghost use Rattle.agg_terms.specs.Chains.{Of, SequenceMatch};
 ghost use Rattle.agg_terms.specs.Trees.{IsTree};
 ghost use Rattle.agg_meaning.specs.States.{IsFedBy, Means, Stands, TakesRow, TakesState, made_for};
@@ -103,7 +103,8 @@ impl MatchState {
     /// None here: a number takes no room.
     #[tactic(auto, using(value_types::proofs::FoldLaws::value_laws))]
     pub fn finish(&self, _alloc: Global) -> Result<Value, OutOfMemory>
-        ensures { IfOk result (λ v. Means (held self.now) (value_of v)) }
+        ensures always { IsOk result }
+        ensures means { IfOk result (λ v. Means (held self.now) (value_of v)) }
     {
         let is_match = matches(self.pattern.pattern(), self.rows.events());
         Ok(Value::Num(if is_match { 1 } else { 0 }))

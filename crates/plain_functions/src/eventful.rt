@@ -1,11 +1,14 @@
 //! Functions over events: the level of a funnel, whether a pattern matches, and retention.
 ghost use Rattle.std.specs.Prelude.{◌≡◌, ◌≤◌, IfOk, length, map, pos};
+ghost use Rattle.agg_terms.specs.Lists.{NotFalling};
+ghost use Rattle.agg_terms.specs.Trees.{by_time};
 ghost use Rattle.agg_terms.specs.Types as types_in;
 ghost use Rattle.agg_terms.specs.Values.{Num, list_value};
 ghost use Rattle.agg_meaning.specs.Events as terms;
 ghost use Rattle.value_types.specs.Folds.{event_of, pattern_of, ty_of, value_of};
 ghost use Rattle.plain_rows.specs.Rows.{rows_of};
 ghost use Rattle.plain_rows.specs.Served.{AreEvents, IsSearched};
+ghost use Rattle.window_funnel.specs.Conditions.{cut_to};
 
 use agg_values::{Event, OutOfMemory, Pattern, Seq, Ty, Value};
 use plain_rows::{events_of, flag, met_set, retained};
@@ -33,6 +36,16 @@ fn condition_count(types: &[Ty]) -> u32
     types.len().saturating_sub(1) as u32
 }
 
+/// How far the funnel goes over events.
+fn reached(window: u64, strict: bool, conditions: u32, events: &[Event]) -> Value
+    requires some { 1 ≤ conditions }
+    requires most { conditions ≤ 32 }
+    requires ordered { NotFalling by_time (map event_of events.now) }
+    ensures { value_of result ≡ Num (pos (terms.funnel_level window strict (map (cut_to conditions) (map event_of events.now)))) }
+{
+    Value::Num(i128::from(level(window, strict, conditions, events)))
+}
+
 /// How far the funnel goes.
 pub fn funnel(
     alloc: Global,
@@ -46,8 +59,7 @@ pub fn funnel(
 {
     let events = typed_events(alloc, types, rows)?;
     let conditions = condition_count(types);
-    let reached = level(window, strict, conditions, events.as_slice());
-    Ok(Value::Num(i128::from(reached)))
+    Ok(reached(window, strict, conditions, events.as_slice()))
 }
 
 /// Whether the pattern matches.

@@ -1,3 +1,4 @@
+pub mod Cuts
 pub mod Reaches
 pub mod Tables
 pub mod Joined

@@ -2,14 +2,14 @@ use Rattle.std.proofs.Common.{map, sym, subst, take}
 use Rattle.agg_terms.specs.Lists.{NotFalling}
 use Rattle.agg_terms.specs.Trees.{by_time}
 use Rattle.value_types.specs.Folds.{event_of}
-use Rattle.event_leaves.specs.Kept.{within}
+use Rattle.window_funnel.specs.Conditions.{cut_to}
 use Rattle.event_leaves.proofs.EventLists.{ordered_more}
 use Rattle.event_leaves.proofs.InOrder as lists
 use Rattle.event_leaves.proofs.event_rows.in_order.Goals as goal
 
 pub insert-requires : goal.insert-requires
 insert-requires c =
-    subst (NotFalling by_time) (sym c.loop-event.invariant) (lists.in_order (map (within c.args.conditions) (map event_of (take c.loop-event.event-index c.args.events.now))))
+    subst (NotFalling by_time) (sym c.loop-event.invariant) (lists.in_order (map (cut_to c.args.conditions) (map event_of (take c.loop-event.event-index c.args.events.now))))
 
 pub loop-event-preserved : goal.loop-event-preserved
 loop-event-preserved c =
