@@ -3,8 +3,6 @@
 //! what the laws of fields are for.
 #![tactic(auto)]
 
-mod uses;
-
 #[cfg(test)]
 mod faults;
 #[cfg(test)]
@@ -16,6 +14,7 @@ mod one_byte;
 mod samples;
 #[cfg(test)]
 mod tables;
+mod uses;
 #[cfg(test)]
 mod values;
 #[cfg(test)]
