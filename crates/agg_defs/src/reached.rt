@@ -2,7 +2,7 @@
 ghost use Rattle.std.specs.Prelude.{◌≡◌, map, IfOk};
 ghost use Rattle.agg_terms.specs.Lists as lists;
 ghost use Rattle.agg_terms.specs.Types as types;
-ghost use Rattle.agg_defs.specs.proving.Reached.{types_of, part_of};
+ghost use Rattle.agg_defs.specs.proving.Reached.{reached_types, part_of};
 ghost use Rattle.value_types.specs.Folds.{ty_of};
 
 use std::alloc::Global;
@@ -34,7 +34,7 @@ impl Passed {
 
 /// All of these types.
 pub fn all_reached<'a>(alloc: Global, types: &'a [Ty]) -> Result<Vec<Reached<'a>>, OutOfMemory>
-    ensures { IfOk result (λ all. types_of all.items ≡ map ty_of types.now) }
+    ensures { IfOk result (λ all. reached_types all.items ≡ map ty_of types.now) }
 {
     let mut all = Vec::new(alloc);
     for ty in types {
@@ -45,7 +45,7 @@ pub fn all_reached<'a>(alloc: Global, types: &'a [Ty]) -> Result<Vec<Reached<'a>
 
 /// All but the last.
 pub fn front<'b, 'a>(args: &'b [Reached<'a>]) -> &'b [Reached<'a>]
-    ensures { types_of result.now ≡ lists.front (types_of args.now) }
+    ensures { reached_types result.now ≡ lists.front (reached_types args.now) }
 {
     match args {
         [] => args,
@@ -59,7 +59,7 @@ pub fn within<'a>(
     passed: Passed,
     args: &[Reached<'a>],
 ) -> Result<Vec<Reached<'a>>, OutOfMemory>
-    ensures { IfOk result (λ all. types_of all.items ≡ map (part_of passed) (types_of args.now)) }
+    ensures { IfOk result (λ all. reached_types all.items ≡ map (part_of passed) (reached_types args.now)) }
 {
     let mut all = Vec::new(alloc);
     for arg in args {

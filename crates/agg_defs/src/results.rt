@@ -4,7 +4,7 @@ ghost use mir.Syntax.{w64};
 ghost use Rattle.agg_terms.specs.Chains.{Arr, MapTy, Signed, Whole};
 ghost use Rattle.agg_terms.specs.Types as types;
 ghost use Rattle.agg_meaning.specs.Results as meaning;
-ghost use Rattle.agg_defs.specs.proving.Reached.{types_of};
+ghost use Rattle.agg_defs.specs.proving.Reached.{reached_types};
 ghost use Rattle.value_types.specs.Folds.{chain_of, leaf_of, ty_of};
 
 use crate::reached::{Passed, Reached, all_reached, front, within};
@@ -14,7 +14,7 @@ use value_types::{
 };
 
 fn any_null(args: &[Reached<'_>]) -> bool
-    ensures { result ≡ types.any_null (types_of args.now) }
+    ensures { result ≡ types.any_null (reached_types args.now) }
 {
     match args {
         [] => false,
@@ -60,7 +60,7 @@ fn list_of(alloc: Global, item: Ty) -> Result<Ty, OutOfMemory>
 
 /// The first type without Nullable; String where there is none, as the definitions have it.
 fn bare_first(alloc: Global, args: &[Reached<'_>]) -> Result<Ty, OutOfMemory>
-    ensures { IfOk result (λ t. ty_of t ≡ types.bare (types.first_type (types_of args.now))) }
+    ensures { IfOk result (λ t. ty_of t ≡ types.bare (types.first_type (reached_types args.now))) }
 {
     match args {
         [] => Ok(Ty::Str),
@@ -69,7 +69,7 @@ fn bare_first(alloc: Global, args: &[Reached<'_>]) -> Result<Ty, OutOfMemory>
 }
 
 fn first_is_signed(args: &[Reached<'_>]) -> bool
-    ensures { result ≡ types.is_signed (types.first_type (types_of args.now)) }
+    ensures { result ≡ types.is_signed (types.first_type (reached_types args.now)) }
 {
     match args {
         [] => false,
@@ -78,7 +78,7 @@ fn first_is_signed(args: &[Reached<'_>]) -> bool
 }
 
 fn first_key(alloc: Global, args: &[Reached<'_>]) -> Result<Ty, OutOfMemory>
-    ensures { IfOk result (λ t. ty_of t ≡ types.key_type (types.first_type (types_of args.now))) }
+    ensures { IfOk result (λ t. ty_of t ≡ types.key_type (types.first_type (reached_types args.now))) }
 {
     match args {
         [] => Ok(Ty::Str),
@@ -88,7 +88,7 @@ fn first_key(alloc: Global, args: &[Reached<'_>]) -> Result<Ty, OutOfMemory>
 
 /// The type of maps from the first type's keys.
 fn map_to(alloc: Global, args: &[Reached<'_>], item: Ty) -> Result<Ty, OutOfMemory>
-    ensures { IfOk result (λ t. ty_of t ≡ MapTy (types.key_type (types.first_type (types_of args.now))) (ty_of item)) }
+    ensures { IfOk result (λ t. ty_of t ≡ MapTy (types.key_type (types.first_type (reached_types args.now))) (ty_of item)) }
 {
     let item = Boxed::new(alloc, item)?;
     Ok(Ty::Map(Boxed::new(alloc, first_key(alloc, args)?)?, item))
@@ -96,7 +96,7 @@ fn map_to(alloc: Global, args: &[Reached<'_>], item: Ty) -> Result<Ty, OutOfMemo
 
 /// The type of a sum: the widest number of the first type's sign.
 fn sum_type(args: &[Reached<'_>]) -> Ty
-    ensures { ty_of result ≡ cond (types.is_signed (types.first_type (types_of args.now))) (Signed w64) (Whole 64) }
+    ensures { ty_of result ≡ cond (types.is_signed (types.first_type (reached_types args.now))) (Signed w64) (Whole 64) }
 {
     if first_is_signed(args) {
         Ty::I64
@@ -107,14 +107,14 @@ fn sum_type(args: &[Reached<'_>]) -> Ty
 
 /// The first type without Nullable, and Nullable where an argument may be NULL.
 fn first_or_null(alloc: Global, args: &[Reached<'_>]) -> Result<Ty, OutOfMemory>
-    ensures { IfOk result (λ t. ty_of t ≡ meaning.nullable_if (types.any_null (types_of args.now)) (types.bare (types.first_type (types_of args.now)))) }
+    ensures { IfOk result (λ t. ty_of t ≡ meaning.nullable_if (types.any_null (reached_types args.now)) (types.bare (types.first_type (reached_types args.now)))) }
 {
     let first = bare_first(alloc, args)?;
     nullable_if(alloc, any_null(args), first)
 }
 
 fn leaf_result(alloc: Global, leaf: &Leaf, args: &[Reached<'_>]) -> Result<Ty, OutOfMemory>
-    ensures { IfOk result (λ t. ty_of t ≡ meaning.leaf_result (leaf_of leaf.now) (types_of args.now)) }
+    ensures { IfOk result (λ t. ty_of t ≡ meaning.leaf_result (leaf_of leaf.now) (reached_types args.now)) }
 {
     match leaf {
         Leaf::Count | Leaf::UniqExact => Ok(Ty::U64),
@@ -131,7 +131,7 @@ fn leaf_result(alloc: Global, leaf: &Leaf, args: &[Reached<'_>]) -> Result<Ty, O
 /// The types in a state type, none in another type.
 #[tactic(auto, using(crate::proofs::Back::tys_back))]
 fn held_types<'a>(alloc: Global, ty: &'a Ty) -> Result<Vec<Reached<'a>>, OutOfMemory>
-    ensures { IfOk result (λ all. types_of all.items ≡ types.state_args (ty_of ty.now)) }
+    ensures { IfOk result (λ all. reached_types all.items ≡ types.state_args (ty_of ty.now)) }
 {
     match ty {
         Ty::State(_, types) => {
@@ -144,7 +144,7 @@ fn held_types<'a>(alloc: Global, ty: &'a Ty) -> Result<Vec<Reached<'a>>, OutOfMe
 
 /// The types in the state type that a `Merge` takes.
 fn state_args<'a>(alloc: Global, args: &[Reached<'a>]) -> Result<Vec<Reached<'a>>, OutOfMemory>
-    ensures { IfOk result (λ all. types_of all.items ≡ types.state_args (types.first_type (types_of args.now))) }
+    ensures { IfOk result (λ all. reached_types all.items ≡ types.state_args (types.first_type (reached_types args.now))) }
 {
     match args {
         [] => Ok(Vec::new(alloc)),
@@ -153,7 +153,7 @@ fn state_args<'a>(alloc: Global, args: &[Reached<'a>]) -> Result<Vec<Reached<'a>
 }
 
 fn copy_reached(alloc: Global, args: &[Reached<'_>]) -> Result<Seq<Ty>, OutOfMemory>
-    ensures { IfOk result (λ all. map ty_of all ≡ types_of args.now) }
+    ensures { IfOk result (λ all. map ty_of all ≡ reached_types args.now) }
 {
     let mut all = Seq::new(alloc);
     for arg in args {
@@ -164,7 +164,7 @@ fn copy_reached(alloc: Global, args: &[Reached<'_>]) -> Result<Seq<Ty>, OutOfMem
 
 /// The type of a chain's states over the types that reach it.
 fn state_type(alloc: Global, chain: &Chain, args: &[Reached<'_>]) -> Result<Ty, OutOfMemory>
-    ensures { IfOk result (λ t. ty_of t ≡ meaning.state_type (chain_of chain.now) (types_of args.now)) }
+    ensures { IfOk result (λ t. ty_of t ≡ meaning.state_type (chain_of chain.now) (reached_types args.now)) }
 {
     match chain {
         Chain::State(of) => state_type(alloc, of.get(), args),
@@ -181,7 +181,7 @@ fn state_type(alloc: Global, chain: &Chain, args: &[Reached<'_>]) -> Result<Ty, 
 
 /// The type of a chain's result over the types that reach it.
 fn result_type(alloc: Global, chain: &Chain, args: &[Reached<'_>]) -> Result<Ty, OutOfMemory>
-    ensures { IfOk result (λ t. ty_of t ≡ meaning.result (chain_of chain.now) (types_of args.now)) }
+    ensures { IfOk result (λ t. ty_of t ≡ meaning.result (chain_of chain.now) (reached_types args.now)) }
 {
     match chain {
         Chain::Leaf(leaf) => leaf_result(alloc, leaf, args),

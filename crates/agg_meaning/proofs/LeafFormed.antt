@@ -7,7 +7,7 @@ use native.Mathlib.Bridge.{le_by_compare, IsLe}
 use mir.Syntax.{w64, Width}
 use Rattle.std.proofs.Common.{pow_pos, rules}
 use Rattle.std.proofs.lemmas.List.{length-replicate, length-map}
-use Rattle.agg_terms.specs.Values.{Event, Value, Num, Bytes, Nil, Items, Pairs, Cell, Tree, Empty, Word, Events, values, values_list}
+use Rattle.agg_terms.specs.Values.{Event, Value, Num, Bytes, Nil, Items, Pairs, Cell, Tree, Empty, Word, Events, values, values_list, is_null}
 use Rattle.agg_terms.specs.Chains.{Leaf, Count, Sum, Min, Max, ArgMin, ArgMax, GroupArray, UniqExact, QuantileExact, WindowFunnel, SequenceMatch, Retention, GroupBit, Chain, Of, If, Array, MapOf, ForEach, OrNull, OrDefault, Distinct, State, Merge, Resample, Ty, Whole, Signed, Str, Arr, MapTy, Nullable, StateOf, tys_list}
 use Rattle.agg_terms.specs.Types.{intervals}
 use Rattle.agg_terms.specs.Order.{compare, compare_rows, ascending, different, best}
@@ -15,7 +15,7 @@ use Rattle.agg_terms.specs.Types.{conditions, is_signed, first_type, bare}
 use Rattle.agg_meaning.specs.Functions.{event_feeds, unless_none, wrapped, total, lower, higher, lower_second, higher_second, arg_val, the_arg, at_most, leaf_normal, leaf_feeds, rounds, single, one_feed}
 use Rattle.agg_terms.specs.Trees.{one_tree, pair_tree}
 use Rattle.agg_meaning.specs.Results.{leaf_blank}
-use Rattle.agg_meaning.specs.Feeds.{no_null, is_null}
+use Rattle.agg_meaning.specs.Feeds.{no_null}
 use Rattle.agg_meaning.specs.Events.{mets, time_of, event, events, event_row, is_some_mask, mask_of, met_set, bools, bit, flag}
 use Rattle.agg_terms.specs.Lists.{rest_of}
 use Rattle.agg_terms.specs.Trees.{is_one, by_time}

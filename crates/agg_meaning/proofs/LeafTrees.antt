@@ -6,13 +6,13 @@ use Rattle.std.proofs.lemmas.Int.{int_wrap_fits}
 use Rattle.std.proofs.lemmas.List.{length-replicate, length-map}
 use mir.Syntax.{w64}
 use lib.IntN.{+ℤ_idr}
-use Rattle.agg_terms.specs.Values.{Event, Value, Num, Bytes, Nil, Items, Pairs, Cell, Tree, Empty, Word, Events, values_tree, rows_tree}
+use Rattle.agg_terms.specs.Values.{Event, Value, Num, Bytes, Nil, Items, Pairs, Cell, Tree, Empty, Word, Events, values_tree, rows_tree, is_null}
 use Rattle.agg_terms.specs.Chains.{Leaf, Count, Sum, Min, Max, ArgMin, ArgMax, GroupArray, UniqExact, QuantileExact, WindowFunnel, SequenceMatch, Retention, GroupBit, Ty, Whole, Signed, Str, Arr, MapTy, Nullable, StateOf}
 use Rattle.agg_terms.specs.Order.{compare, compare_rows, ascending, different, best, into_sorted, into_set}
 use Rattle.agg_terms.specs.Types.{conditions, is_signed, first_type, bare}
 use Rattle.agg_meaning.specs.Functions.{event_feeds, unless_none, wrapped, counted, lower, higher, the_arg, at_most, leaf_normal, leaf_feeds, rounds, single, one_feed}
 use Rattle.agg_terms.specs.Trees.{one_tree, pair_tree}
-use Rattle.agg_meaning.specs.Feeds.{no_null, is_null}
+use Rattle.agg_meaning.specs.Feeds.{no_null}
 use Rattle.agg_meaning.specs.Events.{event, events, event_row, is_some_mask, bools, flag}
 use Rattle.agg_terms.specs.Trees.{is_one, by_time}
 use Rattle.agg_meaning.proofs.EventLists.{event_back, event_back_blank, row_set}

@@ -78,9 +78,9 @@ all_by last [] = true
 all_by last (e ∷ es) = nat_le e.time last && all_by last es
 
 -- none is later than the first one's time plus the window
-abbrev pub within : ℕ → List Event → Bool
-within window [] = true
-within window (e ∷ es) = all_by (e.time + window) es
+abbrev pub is_in_window : ℕ → List Event → Bool
+is_in_window window [] = true
+is_in_window window (e ∷ es) = all_by (e.time + window) es
 
 -- each is later than the one before it
 abbrev pub rising_times : List Event → Bool
@@ -88,9 +88,9 @@ rising_times [] = true
 rising_times (e ∷ []) = true
 rising_times (e ∷ f ∷ es) = nat_lt e.time f.time && rising_times (f ∷ es)
 
--- A funnel chain: conditions 1, 2, 3 .. in turn within the window, with 'strict_increase' at rising times.
+-- A funnel chain: conditions 1, 2, 3 .. in turn is_in_window the window, with 'strict_increase' at rising times.
 abbrev pub is_funnel : ℕ → Bool → List Event → Bool
-is_funnel window strict es = in_turn 0 es && (within window es && (not strict || rising_times es))
+is_funnel window strict es = in_turn 0 es && (is_in_window window es && (not strict || rising_times es))
 
 -- the greatest of some numbers, 0 of none
 abbrev pub greatest : List ℕ → ℕ

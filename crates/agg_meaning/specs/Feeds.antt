@@ -2,7 +2,7 @@
 use Rattle.std.specs.Prelude.{neg_ℤ, Bool, ℕ, ℤ, List, [], ◌∷◌, Option, ◌^◌, pos, true, false, cond, map, Some, None, ◌<◌, ◌<ℤ◌, is_some, ◌≤ℤ◌}
 use mir.Syntax.{w64}
 use Rattle.agg_terms.specs.Chains.{Array, Chain, Distinct, ForEach, If, Leaf, MapOf, Merge, Nullable, Of, OrDefault, OrNull, Resample, SequenceMatch, Signed, State, Sum, Ty, Whole, WindowFunnel}
-use Rattle.agg_terms.specs.Values.{Cell, Empty, Items, Nil, Num, Pairs, Tree, Value, entries_list, values_list}
+use Rattle.agg_terms.specs.Values.{Cell, Empty, Items, Nil, Num, Pairs, Tree, Value, entries_list, is_null, values_list}
 use Rattle.agg_terms.specs.Lists.{Each, front}
 use Rattle.agg_terms.specs.Trees.{IsPlain, IsTree, IsValue}
 use Rattle.agg_terms.specs.Types.{first_type, inward, key_type}
@@ -78,11 +78,7 @@ opened (State c) r = opened c r
 opened (Merge c) r = as_tree (last Nil r)
 opened (Resample start end step c) r = (opened c (front r), as_key (last Nil r))
 
--- a row without NULL among its arguments; a NULL inside an array or a map is none
-abbrev pub is_null : Value → Bool
-is_null Nil = true
-is_null _ = false
-
+-- a row without NULL among its arguments
 abbrev pub no_null : List Value → Bool
 no_null [] = true
 no_null (v ∷ vs) = cond (is_null v) false (no_null vs)

@@ -30,15 +30,15 @@ are_apart cmp [] = true
 are_apart cmp (x ∷ xs) = list_all (λ y. not (is_eq (cmp x y))) xs && are_apart cmp xs
 
 -- a number from low to high
-abbrev pub within : ℤ → ℤ → ℤ → Bool
-within low high z = int_le low z && int_le z high
+abbrev pub is_between : ℤ → ℤ → ℤ → Bool
+is_between low high z = int_le low z && int_le z high
 
 -- a number of n bits; a number of the width w
 abbrev pub fits_bits : ℕ → ℤ → Bool
-fits_bits n z = within (pos 0) (pos (2 ^ n - 1)) z
+fits_bits n z = is_between (pos 0) (pos (2 ^ n - 1)) z
 
 abbrev pub fits_width : Width → ℤ → Bool
-fits_width w z = within (negsuc (2 ^ hbits w - 1)) (pos (2 ^ hbits w - 1)) z
+fits_width w z = is_between (negsuc (2 ^ hbits w - 1)) (pos (2 ^ hbits w - 1)) z
 
 -- tests of what a value is made of, false at a value of another form
 abbrev pub has_number : (ℤ → Bool) → Value → Bool

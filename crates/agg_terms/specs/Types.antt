@@ -1,6 +1,6 @@
 -- The types at each link of a chain (manual: "Aggregate function combinators").
 use Rattle.std.specs.Prelude.{ℕ, ◌+◌, ◌-◌, ◌/◌, ℤ, ◌-ℤ◌, nat_abs, Bool, true, false, cond, List, [], ◌∷◌, length, map, get_or}
-use Rattle.agg_terms.specs.Chains.{Arr, Array, Chain, ForEach, If, MapOf, MapTy, Merge, Nullable, Resample, Signed, StateOf, Str, Ty, tys_list}
+use Rattle.agg_terms.specs.Chains.{Arr, Array, Chain, ForEach, If, MapOf, MapTy, Merge, Nullable, Resample, Signed, StateOf, Str, Ty, Whole, tys_list}
 use Rattle.agg_terms.specs.Lists.{front, rest_of}
 
 -- how many intervals Resample has: end - start divided by step, rounded up (manual: "-Resample")
@@ -16,6 +16,17 @@ bare t = t
 abbrev pub may_be_null : Ty → Bool
 may_be_null (Nullable t) = true
 may_be_null _ = false
+
+-- a type of numbers, itself without Nullable
+abbrev pub is_number_type : Ty → Bool
+is_number_type (Whole n) = true
+is_number_type (Signed w) = true
+is_number_type _ = false
+
+-- one argument, a number or a Nullable one
+abbrev pub is_one_number : List Ty → Bool
+is_one_number (t ∷ []) = is_number_type (bare t)
+is_one_number _ = false
 
 -- whether its numbers are signed, taken without Nullable
 abbrev pub is_signed : Ty → Bool

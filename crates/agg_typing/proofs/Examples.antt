@@ -8,7 +8,7 @@ use Rattle.agg_typing.specs.Literals.{Literal, Int}
 use Rattle.agg_typing.specs.Names.{read_name}
 use Rattle.agg_typing.specs.Faults.{Fault}
 use Rattle.agg_typing.specs.Parameters.{PatternReader}
-use Rattle.agg_typing.specs.Typing.{Call, call_of, resolved, resolved_state}
+use Rattle.agg_typing.specs.Typing.{TypedCall, call_of, resolved, resolved_state}
 
 -- a reader that refuses every pattern, at the number of conditions that it was given
 abbrev pub no_pattern : PatternReader
@@ -30,7 +30,7 @@ state_of_sum = StateOf (Of Sum) (tys (u8 ∷ []))
 abbrev pub state_of_max : Ty
 state_of_max = StateOf (Of Max) (tys (u8 ∷ []))
 
-abbrev pub call : List ℕ → List Literal → List Ty → Result Call Fault
+abbrev pub call : List ℕ → List Literal → List Ty → Result TypedCall Fault
 call = resolved no_pattern
 
 -- names, read from the left; they are case-sensitive

@@ -9,7 +9,7 @@ use Rattle.agg_terms.specs.Types.{element, map_part, intervals, inward}
 use Rattle.agg_typing.specs.Suffixes.{has_few_suffixes, has_array_outside_if, arguments_reaching}
 use Rattle.agg_typing.specs.Parameters.{pattern_conditions}
 use Rattle.agg_typing.specs.Counts.{arg_count, greatest, inside_maps, least, takes_count}
-use Rattle.agg_typing.specs.Kinds.{Arg, arg_types, each_is, holds_no_state, is_array, is_condition, is_map, is_number, last_is, within}
+use Rattle.agg_typing.specs.Kinds.{Arg, arg_types, each_is, holds_no_state, is_array, is_condition, is_map, is_number, last_is, with_parts}
 use Rattle.agg_typing.specs.States.{is_state_of, is_state_or_merge, wrong_state}
 use Rattle.agg_typing.specs.Same.{same_chain}
 use Rattle.agg_typing.specs.Legal.{suffixes_of, inner_chain, is_range, in_range, is_formed, is_typed, is_legal, all_legal}
@@ -161,10 +161,10 @@ inside (C.Resample start end step c) args p d e =
       };
     })
 inside (C.Array c) args p d e =
-    let t = or_none (each_is is_array args) (arg_types c (within element args)) p.types_ok in
-    let n : length (within element args) ≡ length args = length-within element args in
+    let t = or_none (each_is is_array args) (arg_types c (with_parts element args)) p.types_ok in
+    let n : length (with_parts element args) ≡ length args = length-within element args in
     subst (λ (z : Chain). Reaches z (inward (C.Array c) (types args))) (some_is c d e) (record {
-      args = within element args;
+      args = with_parts element args;
       types_are = types-within element args;
       passes = record {
         formed_ok = subst (Formed c) (sym n) (shorter Suffix.Array (C.Array c) c (length args) (length args) refl p.formed_ok p.formed_ok.range);
@@ -177,10 +177,10 @@ inside (C.Array c) args p d e =
       };
     })
 inside (C.ForEach c) args p d e =
-    let t = or_none (each_is is_array args) (arg_types c (within element args)) p.types_ok in
-    let n : length (within element args) ≡ length args = length-within element args in
+    let t = or_none (each_is is_array args) (arg_types c (with_parts element args)) p.types_ok in
+    let n : length (with_parts element args) ≡ length args = length-within element args in
     subst (λ (z : Chain). Reaches z (inward (C.ForEach c) (types args))) (some_is c d e) (record {
-      args = within element args;
+      args = with_parts element args;
       types_are = types-within element args;
       passes = record {
         formed_ok = subst (Formed c) (sym n) (shorter Suffix.ForEach (C.ForEach c) c (length args) (length args) refl p.formed_ok p.formed_ok.range);
@@ -193,13 +193,13 @@ inside (C.ForEach c) args p d e =
       };
     })
 inside (C.MapOf c) args p d e =
-    let t = or_none (each_is is_map args) (arg_types c (within map_part args)) p.types_ok in
-    let n : length (within map_part args) ≡ length args = length-within map_part args in
+    let t = or_none (each_is is_map args) (arg_types c (with_parts map_part args)) p.types_ok in
+    let n : length (with_parts map_part args) ≡ length args = length-within map_part args in
     let m = or_none (takes_count c 1) (inside_maps c) p.maps_ok in
     let b = in_bounds c 1 m.0 in
-    let one : length (within map_part args) ≡ 1 = omega (arith, n, p.least_ok, p.greatest_ok) in
+    let one : length (with_parts map_part args) ≡ 1 = omega (arith, n, p.least_ok, p.greatest_ok) in
     subst (λ (z : Chain). Reaches z (inward (C.MapOf c) (types args))) (some_is c d e) (record {
-      args = within map_part args;
+      args = with_parts map_part args;
       types_are = types-within map_part args;
       passes = record {
         formed_ok = subst (Formed c) (sym one) (shorter Suffix.MapOf (C.MapOf c) c (length args) 1 refl p.formed_ok p.formed_ok.range);

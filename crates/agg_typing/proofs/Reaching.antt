@@ -5,7 +5,7 @@ use Rattle.agg_terms.specs.Chains as C
 use Rattle.agg_terms.specs.Lists.{Each, front, numbered}
 use Rattle.agg_terms.specs.Types.{element, map_part}
 use Rattle.agg_typing.specs.Faults.{Fault, ArgType, WrongState}
-use Rattle.agg_typing.specs.Kinds.{Arg, arg_types, each_is, holds_no_state, is_array, is_condition, is_map, is_number, is_number_or_text, is_time, last_is, leaf_types, time_and_conditions, within}
+use Rattle.agg_typing.specs.Kinds.{Arg, arg_types, each_is, holds_no_state, is_array, is_condition, is_map, is_number, is_number_or_text, is_time, last_is, leaf_types, time_and_conditions, with_parts}
 use Rattle.agg_typing.specs.States.{each_state, is_state_of, wrong_state}
 use Rattle.agg_typing.specs.Legal.{all_legal, are_legal_types, is_basic, is_legal_type}
 use Rattle.agg_typing.proofs.Same.{both}
@@ -27,15 +27,15 @@ each-front P [] h = tt
 each-front P (a ∷ []) h = tt
 each-front P (a ∷ b ∷ args) h = (h.0, each-front P (b ∷ args) h.1)
 
-pub types-within : (part : Ty → Ty) (args : List Arg) → types (within part args) ≡ map part (types args)
+pub types-within : (part : Ty → Ty) (args : List Arg) → types (with_parts part args) ≡ map part (types args)
 types-within part [] = refl
 types-within part (a ∷ args) = ap (λ ts. part a.1 ∷ ts) (types-within part args)
 
-pub length-within : (part : Ty → Ty) (args : List Arg) → length (within part args) ≡ length args
+pub length-within : (part : Ty → Ty) (args : List Arg) → length (with_parts part args) ≡ length args
 length-within part [] = refl
 length-within part (a ∷ args) = ap suc (length-within part args)
 
-pub each-within : (P : Ty → Type 0) (part : Ty → Ty) (keeps : (t : Ty) → P t → P (part t)) (args : List Arg) → Each P (types args) → Each P (types (within part args))
+pub each-within : (P : Ty → Type 0) (part : Ty → Ty) (keeps : (t : Ty) → P t → P (part t)) (args : List Arg) → Each P (types args) → Each P (types (with_parts part args))
 each-within P part keeps [] h = tt
 each-within P part keeps (a ∷ args) h = (keeps a.1 h.0, each-within P part keeps args h.1)
 
@@ -103,7 +103,7 @@ same-front (a ∷ []) (b ∷ d ∷ others) s = absurd s.1
 same-front (a ∷ e ∷ args) (b ∷ []) s = absurd s.1
 same-front (a ∷ e ∷ args) (b ∷ d ∷ others) s = (s.0, same-front (e ∷ args) (d ∷ others) s.1)
 
-pub same-within : (part : Ty → Ty) (args others : List Arg) → SameTypes args others → SameTypes (within part args) (within part others)
+pub same-within : (part : Ty → Ty) (args others : List Arg) → SameTypes args others → SameTypes (with_parts part args) (with_parts part others)
 same-within part [] [] s = tt
 same-within part [] (b ∷ others) s = absurd s
 same-within part (a ∷ args) [] s = absurd s
@@ -165,14 +165,14 @@ same_arg_types (C.Resample start end step c) args others s h =
     let t = or_none (last_is is_number args) (arg_types c (front args)) h in
     rw (same_last is_number args others s t.0, same_arg_types c (front args) (front others) (same-front args others s) t.1)
 same_arg_types (C.Array c) args others s h =
-    let t = or_none (each_is is_array args) (arg_types c (within element args)) h in
-    rw (same_each is_array args others s t.0, same_arg_types c (within element args) (within element others) (same-within element args others s) t.1)
+    let t = or_none (each_is is_array args) (arg_types c (with_parts element args)) h in
+    rw (same_each is_array args others s t.0, same_arg_types c (with_parts element args) (with_parts element others) (same-within element args others s) t.1)
 same_arg_types (C.ForEach c) args others s h =
-    let t = or_none (each_is is_array args) (arg_types c (within element args)) h in
-    rw (same_each is_array args others s t.0, same_arg_types c (within element args) (within element others) (same-within element args others s) t.1)
+    let t = or_none (each_is is_array args) (arg_types c (with_parts element args)) h in
+    rw (same_each is_array args others s t.0, same_arg_types c (with_parts element args) (with_parts element others) (same-within element args others s) t.1)
 same_arg_types (C.MapOf c) args others s h =
-    let t = or_none (each_is is_map args) (arg_types c (within map_part args)) h in
-    rw (same_each is_map args others s t.0, same_arg_types c (within map_part args) (within map_part others) (same-within map_part args others s) t.1)
+    let t = or_none (each_is is_map args) (arg_types c (with_parts map_part args)) h in
+    rw (same_each is_map args others s t.0, same_arg_types c (with_parts map_part args) (with_parts map_part others) (same-within map_part args others s) t.1)
 same_arg_types (C.Distinct c) args others s h =
     let t = or_none (each_is holds_no_state args) (arg_types c args) h in
     rw (same_each holds_no_state args others s t.0, same_arg_types c args others s t.1)
@@ -194,9 +194,9 @@ pub same_wrong_state : (c : Chain) (args others : List Arg) → SameTypes args o
 same_wrong_state (C.Of f) args others s h = refl
 same_wrong_state (C.If c) args others s h = same_wrong_state c (front args) (front others) (same-front args others s) h
 same_wrong_state (C.Resample start end step c) args others s h = same_wrong_state c (front args) (front others) (same-front args others s) h
-same_wrong_state (C.Array c) args others s h = same_wrong_state c (within element args) (within element others) (same-within element args others s) h
-same_wrong_state (C.ForEach c) args others s h = same_wrong_state c (within element args) (within element others) (same-within element args others s) h
-same_wrong_state (C.MapOf c) args others s h = same_wrong_state c (within map_part args) (within map_part others) (same-within map_part args others s) h
+same_wrong_state (C.Array c) args others s h = same_wrong_state c (with_parts element args) (with_parts element others) (same-within element args others s) h
+same_wrong_state (C.ForEach c) args others s h = same_wrong_state c (with_parts element args) (with_parts element others) (same-within element args others s) h
+same_wrong_state (C.MapOf c) args others s h = same_wrong_state c (with_parts map_part args) (with_parts map_part others) (same-within map_part args others s) h
 same_wrong_state (C.Distinct c) args others s h = same_wrong_state c args others s h
 same_wrong_state (C.OrNull c) args others s h = same_wrong_state c args others s h
 same_wrong_state (C.OrDefault c) args others s h = same_wrong_state c args others s h

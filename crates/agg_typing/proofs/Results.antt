@@ -6,7 +6,7 @@ use Rattle.agg_terms.specs.Chains as C
 use Rattle.agg_terms.specs.Lists.{Each, numbered}
 use Rattle.agg_terms.specs.Types.{bare, any_null, first_type, is_signed, inward, key_type}
 use Rattle.agg_meaning.specs.Results.{nullable_if, leaf_result, with_null, result, state_type}
-use Rattle.agg_typing.specs.Kinds.{Arg, arg_types, each_is, is_map, is_number, is_number_or_text, leaf_types, within}
+use Rattle.agg_typing.specs.Kinds.{Arg, arg_types, each_is, is_map, is_number, is_number_or_text, leaf_types, with_parts}
 use Rattle.agg_terms.specs.Types.{map_part}
 use Rattle.agg_typing.specs.States.{is_state_or_merge}
 use Rattle.agg_typing.specs.Legal.{is_legal, is_basic, is_legal_type, all_legal, are_legal_types}
@@ -152,7 +152,7 @@ result_legal (C.If c) ts l = result_legal c (inward (C.If c) ts) (inner_is_legal
 result_legal (C.Array c) ts l = result_legal c (inward (C.Array c) ts) (inner_is_legal (C.Array c) c ts refl l)
 result_legal (C.MapOf c) ts l =
     let p : Passes (C.MapOf c) (numbered 1 ts) = legal_passes (C.MapOf c) ts l in
-    let t = or_none (each_is is_map (numbered 1 ts)) (arg_types c (within map_part (numbered 1 ts))) p.types_ok in
+    let t = or_none (each_is is_map (numbered 1 ts)) (arg_types c (with_parts map_part (numbered 1 ts))) p.types_ok in
     let key : is_basic (key_type (first_type ts)) ≡ true =
     subst (λ (us : List Ty). is_basic (key_type (first_type us)) ≡ true) (types-numbered 1 ts) (keys_basic (numbered 1 ts) t.0 p.legal_ok) in
     rw (key, result_legal c (inward (C.MapOf c) ts) (inner_is_legal (C.MapOf c) c ts refl l))

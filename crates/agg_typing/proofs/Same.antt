@@ -1,7 +1,7 @@
 -- The tests of sameness are exact.
-use Rattle.std.proofs.Common.{◌≡◌, refl, ap, ℕ, nat_eq, ℤ, int_le, Bool, true, false, ◌&&◌, List, [], ◌∷◌, Option, Some, None, arith}
+use Rattle.std.proofs.Common.{◌≡◌, refl, ap, subst, ℕ, nat_eq, ℤ, int_le, Bool, true, false, ◌&&◌, List, [], ◌∷◌, Option, Some, None, arith}
 use Rattle.std.proofs.lemmas.Int.{ints}
-use Rattle.std.proofs.lemmas.Bool.{eqb-true}
+use Rattle.std.proofs.lemmas.Bool.{eq-eqb, eqb-true}
 use Rattle.agg_terms.specs.Chains.{Above, And, Any, At, AtOrAbove, Below, BelowOrAt, BitOp, Chain, Cond, Gap, Leaf, Next, Op, Or, PatItem, PatLink, Pattern, Time, Xor}
 use Rattle.agg_typing.specs.Same.{same_bit, same_bool, same_chain, same_int, same_item, same_leaf, same_link, same_list, same_most, same_op, same_pattern}
 use Rattle.agg_terms.specs.Chains as C
@@ -112,3 +112,73 @@ chain_exact (C.Resample s e k c) (C.Resample t f l d) h =
     let u : c ≡ d = chain_exact c d last.1 in
     cc (p, q, r, u)
 chain_exact _ _ h = cc h
+
+and_same : {a b : Bool} → a ≡ true → b ≡ true → (a && b) ≡ true
+and_same p q = rw p q
+
+list_same : {X : Type 0} (same : X → X → Bool) (itself : (x : X) → same x x ≡ true) (xs : List X) → same_list same xs xs ≡ true
+list_same same itself [] = refl
+list_same same itself (x ∷ xs) = and_same (itself x) (list_same same itself xs)
+
+op_same : (o : Op) → same_op o o ≡ true
+op_same Below = refl
+op_same BelowOrAt = refl
+op_same At = refl
+op_same AtOrAbove = refl
+op_same Above = refl
+
+item_same : (i : PatItem) → same_item i i ≡ true
+item_same (Cond n) = eq-eqb n n refl
+item_same Any = refl
+
+link_same : (l : PatLink) → same_link l l ≡ true
+link_same Next = refl
+link_same Gap = refl
+link_same (Time o n) = and_same (op_same o) (eq-eqb n n refl)
+
+bit_same : (o : BitOp) → same_bit o o ≡ true
+bit_same And = refl
+bit_same Or = refl
+bit_same Xor = refl
+
+bool_same : (b : Bool) → same_bool b b ≡ true
+bool_same true = refl
+bool_same false = refl
+
+most_same : (m : Option ℕ) → same_most m m ≡ true
+most_same None = refl
+most_same (Some n) = eq-eqb n n refl
+
+int_same : (z : ℤ) → same_int z z ≡ true
+int_same z = grind (arith, ints)
+
+leaf_same : (f : Leaf) → same_leaf f f ≡ true
+leaf_same C.Count = refl
+leaf_same C.Sum = refl
+leaf_same C.Min = refl
+leaf_same C.Max = refl
+leaf_same C.ArgMin = refl
+leaf_same C.ArgMax = refl
+leaf_same (C.GroupArray m) = most_same m
+leaf_same C.UniqExact = refl
+leaf_same (C.QuantileExact n) = eq-eqb n n refl
+leaf_same (C.WindowFunnel w s) = and_same (eq-eqb w w refl) (bool_same s)
+leaf_same (C.SequenceMatch p) = and_same (list_same same_item item_same p.items) (list_same same_link link_same p.links)
+leaf_same C.Retention = refl
+leaf_same (C.GroupBit o) = bit_same o
+
+itself_same : (c : Chain) → same_chain c c ≡ true
+itself_same (C.Of f) = leaf_same f
+itself_same (C.If c) = itself_same c
+itself_same (C.Array c) = itself_same c
+itself_same (C.MapOf c) = itself_same c
+itself_same (C.ForEach c) = itself_same c
+itself_same (C.OrNull c) = itself_same c
+itself_same (C.OrDefault c) = itself_same c
+itself_same (C.Distinct c) = itself_same c
+itself_same (C.State c) = itself_same c
+itself_same (C.Merge c) = itself_same c
+itself_same (C.Resample s e k c) = and_same (int_same s) (and_same (int_same e) (and_same (eq-eqb k k refl) (itself_same c)))
+
+pub chain_same : (c d : Chain) → c ≡ d → same_chain c d ≡ true
+chain_same c d e = subst (λ x. same_chain c x ≡ true) e (itself_same c)

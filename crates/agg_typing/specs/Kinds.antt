@@ -58,8 +58,8 @@ abbrev pub Arg : Type 0
 Arg = ℕ × Ty
 
 -- parts of types, each with the number of the argument that it came from
-abbrev pub within : (Ty → Ty) → List Arg → List Arg
-within part args = map (λ (a : Arg). (a.0, part a.1)) args
+abbrev pub with_parts : (Ty → Ty) → List Arg → List Arg
+with_parts part args = map (λ (a : Arg). (a.0, part a.1)) args
 
 -- Type of an argument: the first that isn't of the kind.
 abbrev pub each_is : (Ty → Bool) → List Arg → Option Fault
@@ -100,9 +100,9 @@ abbrev pub arg_types : Chain → List Arg → Option Fault
 arg_types (C.Of f) args = leaf_types f args
 arg_types (C.If c) args = or_else (last_is is_condition args) (arg_types c (front args))
 arg_types (C.Resample start end step c) args = or_else (last_is is_number args) (arg_types c (front args))
-arg_types (C.Array c) args = or_else (each_is is_array args) (arg_types c (within element args))
-arg_types (C.ForEach c) args = or_else (each_is is_array args) (arg_types c (within element args))
-arg_types (C.MapOf c) args = or_else (each_is is_map args) (arg_types c (within map_part args))
+arg_types (C.Array c) args = or_else (each_is is_array args) (arg_types c (with_parts element args))
+arg_types (C.ForEach c) args = or_else (each_is is_array args) (arg_types c (with_parts element args))
+arg_types (C.MapOf c) args = or_else (each_is is_map args) (arg_types c (with_parts map_part args))
 arg_types (C.Distinct c) args = or_else (each_is holds_no_state args) (arg_types c args)
 arg_types (C.OrNull c) args = arg_types c args
 arg_types (C.OrDefault c) args = arg_types c args

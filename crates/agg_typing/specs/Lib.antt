@@ -9,5 +9,6 @@ pub mod Kinds
 pub mod States
 pub mod Typing
 pub mod Legal
+pub mod PatternWords
 pub mod Promises
 pub mod Views

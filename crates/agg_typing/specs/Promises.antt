@@ -1,5 +1,5 @@
 -- The laws of names and typing.
-use Rattle.std.specs.Prelude.{◌≡◌, ℕ, true, List, Some, Ok}
+use Rattle.std.specs.Prelude.{◌≡◌, ◌↔◌, ℕ, true, List, Some, Ok}
 use Rattle.agg_terms.specs.declared.words.LeafName.{LeafName}
 use Rattle.agg_terms.specs.declared.words.Suffix.{Suffix}
 use Rattle.agg_terms.specs.Chains.{Chain, Pattern, Ty, Tys, Of, StateOf, SequenceMatch, tys_list}
@@ -8,6 +8,7 @@ use Rattle.agg_meaning.specs.Results.{result, state_type}
 use Rattle.agg_meaning.specs.Laws.{IsLegal}
 use Rattle.agg_typing.specs.Literals.{Literal}
 use Rattle.agg_typing.specs.Names.{Shape, spelled, read_name}
+use Rattle.agg_typing.specs.Same.{same_chain}
 use Rattle.agg_typing.specs.Parameters.{PatternReader, most_conditions}
 use Rattle.agg_typing.specs.Typing.{allowed, resolved_state}
 use Rattle.agg_typing.specs.Legal.{is_pattern, is_legal, is_legal_type, are_legal_types, function_of, inner_chain}
@@ -25,6 +26,10 @@ ReadIsSpelled = (name : List ℕ) (shape : Shape) → read_name name ≡ Ok shap
 abbrev pub SpelledOnce : Type 0
 SpelledOnce =
     (f g : LeafName) (suffixes others : List Suffix) → spelled f suffixes ≡ spelled g others → (f ≡ g) × (suffixes ≡ others)
+
+-- two chains are told the same exactly where they are
+abbrev pub ChainTestIsExact : Type 0
+ChainTestIsExact = (c d : Chain) → (same_chain c d ≡ true) ↔ (c ≡ d)
 
 -- a reader of patterns gives patterns
 abbrev pub GivesPatterns : PatternReader → Type 0

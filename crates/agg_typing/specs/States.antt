@@ -6,7 +6,7 @@ use Rattle.agg_terms.specs.Lists.{front}
 use Rattle.agg_terms.specs.Types.{element, map_part}
 use Rattle.agg_typing.specs.Faults.{Fault, WrongState}
 use Rattle.agg_typing.specs.Same.{same_chain}
-use Rattle.agg_typing.specs.Kinds.{Arg, within}
+use Rattle.agg_typing.specs.Kinds.{Arg, with_parts}
 
 -- a State or a Merge at the outermost link: such a chain has the states of its inner chain, and no state type names it
 abbrev pub is_state_or_merge : Chain → Bool
@@ -30,9 +30,9 @@ abbrev pub wrong_state : Chain → List Arg → Option Fault
 wrong_state (C.Of f) args = None
 wrong_state (C.If c) args = wrong_state c (front args)
 wrong_state (C.Resample start end step c) args = wrong_state c (front args)
-wrong_state (C.Array c) args = wrong_state c (within element args)
-wrong_state (C.ForEach c) args = wrong_state c (within element args)
-wrong_state (C.MapOf c) args = wrong_state c (within map_part args)
+wrong_state (C.Array c) args = wrong_state c (with_parts element args)
+wrong_state (C.ForEach c) args = wrong_state c (with_parts element args)
+wrong_state (C.MapOf c) args = wrong_state c (with_parts map_part args)
 wrong_state (C.Distinct c) args = wrong_state c args
 wrong_state (C.OrNull c) args = wrong_state c args
 wrong_state (C.OrDefault c) args = wrong_state c args

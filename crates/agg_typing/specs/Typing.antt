@@ -39,17 +39,17 @@ allowed reads name params args =
     and_then (known_name (read_name name)) (λ (shape : Shape). allowed_shape reads shape params args)
 
 -- a chain with its argument types, its result's type and its states' type
-pub record Call : Type 0 where
+pub record TypedCall : Type 0 where
   pub chain : Chain
   pub args : List Ty
   pub result : Ty
   pub state : Ty
 
-abbrev pub call_of : Chain → List Ty → Call
+abbrev pub call_of : Chain → List Ty → TypedCall
 call_of c ts = record { chain = c; args = ts; result = result c ts; state = state_type c ts }
 
 -- what a call of a request stands for, or why it is refused
-abbrev pub resolved : PatternReader → List ℕ → List Literal → List Ty → Result Call Fault
+abbrev pub resolved : PatternReader → List ℕ → List Literal → List Ty → Result TypedCall Fault
 resolved reads name params args = and_then (allowed reads name params args) (λ (c : Chain). Ok (call_of c args))
 
 -- the type that the text of a state type names: by the same rules, and then its chain is no State and no Merge

@@ -3,13 +3,14 @@
 //! Faults, Suffixes, Parameters, Counts, Kinds, States, Typing, Legal; their laws in Promises.
 #![tactic(auto)]
 
-ghost use Rattle.agg_typing.specs.Promises.{SpelledIsRead, ReadIsSpelled, SpelledOnce, AllowedIsLegal, AllowedStateIsLegal, LegalIsLawful, InnerIsLegal, ResultIsLegal, StateTypeIsLegal, StateTypeIsOfLegal, PatternsArePatterns, PatternMeetsConditions};
+ghost use Rattle.agg_typing.specs.Promises.{SpelledIsRead, ReadIsSpelled, SpelledOnce, ChainTestIsExact, AllowedIsLegal, AllowedStateIsLegal, LegalIsLawful, InnerIsLegal, ResultIsLegal, StateTypeIsLegal, StateTypeIsOfLegal, PatternsArePatterns, PatternMeetsConditions};
 
 /// The laws of names and typing.
 pub fn law_typing()
     ensures spelled_is_read { SpelledIsRead }
     ensures read_is_spelled { ReadIsSpelled }
     ensures spelled_once { SpelledOnce }
+    ensures chain_test_is_exact { ChainTestIsExact }
     ensures allowed_is_legal { AllowedIsLegal }
     ensures allowed_state_is_legal { AllowedStateIsLegal }
     ensures legal_is_lawful { LegalIsLawful }

@@ -9,7 +9,7 @@ use Rattle.value_types.specs.declared.ty.Ty.{Ty}
 use Rattle.value_types.specs.declared.value.Value.{Value}
 use Rattle.value_types.specs.Folds.{value_of}
 use Rattle.agg_values.specs.declared.links.Peels.{Peels}
-use Rattle.agg_values.specs.Peels.{types_of}
+use Rattle.agg_values.specs.Peels.{peeled_types}
 
 other_length : (ts : List terms.Ty) (vs : List family.Value) → length ts ≢ length vs → false ≡ fits_row ts vs
 other_length [] [] h = absurd (h refl)
@@ -22,6 +22,6 @@ other_length (t ∷ ts) (v ∷ vs) h = later (fits_plain (bare t) v) (other_leng
     later false e = refl
 
 -- a tuple of another length than the types
-pub row-longer : (peels : Peels) (types : List Ty) (row : List Value) → length types ≢ length row → false ≡ fits_row (types_of peels types) (map value_of row)
+pub row-longer : (peels : Peels) (types : List Ty) (row : List Value) → length types ≢ length row → false ≡ fits_row (peeled_types peels types) (map value_of row)
 row-longer peels types row h =
-    other_length (types_of peels types) (map value_of row) (λ e. h (sym (length-map types _) ∙ e ∙ length-map row value_of))
+    other_length (peeled_types peels types) (map value_of row) (λ e. h (sym (length-map types _) ∙ e ∙ length-map row value_of))

@@ -13,5 +13,5 @@ peeled (Element' _ outer) ty = element (peeled outer ty)
 peeled (Item' _ outer) ty = map_part (peeled outer ty)
 
 -- the types of all arguments
-abbrev pub types_of : Peels → List Ty → List terms.Ty
-types_of peels types = map (λ ty. peeled peels (ty_of ty)) types
+abbrev pub peeled_types : Peels → List Ty → List terms.Ty
+peeled_types peels types = map (λ ty. peeled peels (ty_of ty)) types

@@ -5,7 +5,7 @@ ghost use Rattle.agg_terms.specs.Fitting as spec;
 ghost use Rattle.agg_terms.specs.Values.{Num};
 ghost use Rattle.agg_terms.specs.Order.{compare, compare_rows};
 ghost use Rattle.agg_terms.specs.Trees.{by_time};
-ghost use Rattle.agg_values.specs.Peels.{types_of};
+ghost use Rattle.agg_values.specs.Peels.{peeled_types};
 ghost use Rattle.value_types.specs.Folds.{event_of, leaf_of, tree_of, ty_of, value_of};
 
 use crate::in_order::{events_stand_by_time, rows_are_apart, rows_rise, values_do_not_fall};
@@ -21,7 +21,7 @@ fn is_none(tree: &Tree) -> bool
 }
 
 fn is_word(tree: &Tree, low: i128, high: i128) -> bool
-    ensures { result ≡ spec.has_word (spec.within low high) (tree_of tree.now) }
+    ensures { result ≡ spec.has_word (spec.is_between low high) (tree_of tree.now) }
 {
     match tree {
         Tree::Word(word) => low <= *word && *word <= high,
@@ -104,7 +104,7 @@ fn is_best(ty: &Ty, tree: &Tree) -> bool
 
 /// The state of argMin and argMax: no values, or one of each of the two arguments.
 fn is_best_pair(types: &[Ty], peels: &Peels<'_>, tree: &Tree) -> bool
-    ensures { result ≡ spec.is_best_pair (types_of peels.now types.now) (tree_of tree.now) }
+    ensures { result ≡ spec.is_best_pair (peeled_types peels.now types.now) (tree_of tree.now) }
 {
     match tree {
         Tree::Empty => true,
@@ -114,7 +114,7 @@ fn is_best_pair(types: &[Ty], peels: &Peels<'_>, tree: &Tree) -> bool
 }
 
 fn are_pair(types: &[Ty], peels: &Peels<'_>, tuple: &[Value]) -> bool
-    ensures { result ≡ spec.are_two (map value_of tuple.now) && spec.fits_row (types_of peels.now types.now) (map value_of tuple.now) }
+    ensures { result ≡ spec.are_two (map value_of tuple.now) && spec.fits_row (peeled_types peels.now types.now) (map value_of tuple.now) }
 {
     tuple.len() == 2 && row_fits(types, peels, tuple)
 }
@@ -164,14 +164,14 @@ fn is_in_order(ty: &Ty, tree: &Tree) -> bool
 
 #[tactic(auto, using(crate::proofs::Images::image_laws))]
 fn are_set(types: &[Ty], peels: &Peels<'_>, rows: &[Seq<Value>]) -> bool
-    ensures { result ≡ list_all (spec.fits_row (types_of peels.now types.now)) (map (map value_of) rows.now) && spec.is_rising compare_rows (map (map value_of) rows.now) }
+    ensures { result ≡ list_all (spec.fits_row (peeled_types peels.now types.now)) (map (map value_of) rows.now) && spec.is_rising compare_rows (map (map value_of) rows.now) }
 {
     rows_fit(types, peels, rows) && rows_rise(rows)
 }
 
 /// The state of uniqExact: tuples of the types, each above the one before it.
 fn is_set(types: &[Ty], peels: &Peels<'_>, tree: &Tree) -> bool
-    ensures { result ≡ spec.has_rows (λ rs. list_all (spec.fits_row (types_of peels.now types.now)) rs && spec.is_rising compare_rows rs) (tree_of tree.now) }
+    ensures { result ≡ spec.has_rows (λ rs. list_all (spec.fits_row (peeled_types peels.now types.now)) rs && spec.is_rising compare_rows rs) (tree_of tree.now) }
 {
     match tree {
         Tree::Rows(rows) => are_set(types, peels, rows.as_slice()),
@@ -181,14 +181,14 @@ fn is_set(types: &[Ty], peels: &Peels<'_>, tree: &Tree) -> bool
 
 #[tactic(auto, using(crate::proofs::Images::image_laws))]
 fn are_different(types: &[Ty], peels: &Peels<'_>, rows: &[Seq<Value>]) -> bool
-    ensures { result ≡ list_all (spec.fits_row (types_of peels.now types.now)) (map (map value_of) rows.now) && spec.are_apart compare_rows (map (map value_of) rows.now) }
+    ensures { result ≡ list_all (spec.fits_row (peeled_types peels.now types.now)) (map (map value_of) rows.now) && spec.are_apart compare_rows (map (map value_of) rows.now) }
 {
     rows_fit(types, peels, rows) && rows_are_apart(rows)
 }
 
 /// The state under Distinct: tuples of the types, of which none stands twice.
 pub(crate) fn is_distinct(types: &[Ty], peels: &Peels<'_>, tree: &Tree) -> bool
-    ensures { result ≡ spec.has_rows (λ rs. list_all (spec.fits_row (types_of peels.now types.now)) rs && spec.are_apart compare_rows rs) (tree_of tree.now) }
+    ensures { result ≡ spec.has_rows (λ rs. list_all (spec.fits_row (peeled_types peels.now types.now)) rs && spec.are_apart compare_rows rs) (tree_of tree.now) }
 {
     match tree {
         Tree::Rows(rows) => are_different(types, peels, rows.as_slice()),
@@ -235,7 +235,7 @@ fn are_events(conditions: usize, tree: &Tree) -> bool
 
 /// Whether the tree is one of the function.
 pub(crate) fn leaf_tree_fits(leaf: &Leaf, types: &[Ty], peels: &Peels<'_>, tree: &Tree) -> bool
-    ensures { result ≡ spec.is_leaf_tree (leaf_of leaf.now) (types_of peels.now types.now) (tree_of tree.now) }
+    ensures { result ≡ spec.is_leaf_tree (leaf_of leaf.now) (peeled_types peels.now types.now) (tree_of tree.now) }
 {
     let text = Ty::Str;
     let first = first_type(types, peels, &text);

@@ -3,7 +3,7 @@
 ghost use Rattle.std.specs.Prelude.{◌≡◌, get_or, map};
 ghost use Rattle.agg_terms.specs.Lists as lists;
 ghost use Rattle.agg_terms.specs.Types as spec;
-ghost use Rattle.agg_values.specs.Peels.{peeled, types_of};
+ghost use Rattle.agg_values.specs.Peels.{peeled, peeled_types};
 ghost use Rattle.value_types.specs.Folds.{ty_of};
 
 use value_types::{Ty, element, map_item};
@@ -32,7 +32,7 @@ pub fn peel<'t>(peels: &Peels<'_>, ty: &'t Ty) -> &'t Ty
 
 /// The type of the first argument, or the other type where there is none.
 pub fn first_type<'t>(types: &'t [Ty], peels: &Peels<'_>, other: &'t Ty) -> &'t Ty
-    ensures { ty_of result.now ≡ get_or (types_of peels.now types.now) 0 (ty_of other.now) }
+    ensures { ty_of result.now ≡ get_or (peeled_types peels.now types.now) 0 (ty_of other.now) }
 {
     match types {
         [ty, ..] => peel(peels, ty),
@@ -62,7 +62,7 @@ fn made_over(ty: &Ty) -> &[Ty]
 
 /// The types that the state was made over, where the first argument is one.
 pub fn state_args<'t>(types: &'t [Ty], peels: &Peels<'_>) -> &'t [Ty]
-    ensures { map ty_of result.now ≡ spec.state_args (spec.first_type (types_of peels.now types.now)) }
+    ensures { map ty_of result.now ≡ spec.state_args (spec.first_type (peeled_types peels.now types.now)) }
 {
     match types {
         [ty, ..] => made_over(peel(peels, ty)),

@@ -8,7 +8,7 @@ ghost use Rattle.value_types.specs.Folds.{ty_of, value_of};
 use value_types::{Seq, Ty, Value, bare};
 
 pub(crate) fn is_number(value: &Value, low: i128, high: i128) -> bool
-    ensures { result ≡ spec.has_number (spec.within low high) (value_of value.now) }
+    ensures { result ≡ spec.has_number (spec.is_between low high) (value_of value.now) }
 {
     match value {
         Value::Num(number) => low <= *number && *number <= high,

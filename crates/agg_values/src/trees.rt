@@ -4,7 +4,7 @@ ghost use Rattle.std.specs.List.{list_all};
 ghost use Rattle.agg_terms.specs.Fitting as spec;
 ghost use Rattle.agg_terms.specs.Order.{compare};
 ghost use Rattle.agg_terms.specs.Types as terms;
-ghost use Rattle.agg_values.specs.Peels.{types_of};
+ghost use Rattle.agg_values.specs.Peels.{peeled_types};
 ghost use Rattle.value_types.specs.Folds.{chain_of, entry_of, tree_of, ty_of, value_of};
 
 use crate::in_order::keys_rise;
@@ -45,7 +45,7 @@ fn has_keys(ty: &Ty, tree: &Tree) -> bool
 
 /// Whether the tree has keys of the type that the keys of the first argument have.
 fn has_keys_of(types: &[Ty], peels: &Peels<'_>, tree: &Tree) -> bool
-    ensures { result ≡ spec.has_keyed (λ es. list_all (λ e. spec.fits_plain (terms.key_type (terms.first_type (types_of peels.now types.now))) e.0) es
+    ensures { result ≡ spec.has_keyed (λ es. list_all (λ e. spec.fits_plain (terms.key_type (terms.first_type (peeled_types peels.now types.now))) e.0) es
         && spec.is_rising compare (map (λ e. e.0) es)) (tree_of tree.now) }
 {
     let text = Ty::Str;
@@ -66,7 +66,7 @@ fn has_places(count: u128, tree: &Tree) -> bool
 #[cycle(trees)]
 #[tactic(auto, using(crate::proofs::TreeLinks::link_laws))]
 pub(crate) fn tree_fits(chain: &Chain, types: &[Ty], peels: &Peels<'_>, tree: &Tree) -> bool
-    ensures { result ≡ spec.is_tree (chain_of chain.now) (types_of peels.now types.now) (tree_of tree.now) }
+    ensures { result ≡ spec.is_tree (chain_of chain.now) (peeled_types peels.now types.now) (tree_of tree.now) }
 {
     match chain {
         Chain::Leaf(leaf) => leaf_tree_fits(leaf, types, peels, tree),
@@ -91,7 +91,7 @@ pub(crate) fn tree_fits(chain: &Chain, types: &[Ty], peels: &Peels<'_>, tree: &T
 
 #[cycle(trees)]
 fn slots_fit(of: &Chain, types: &[Ty], peels: &Peels<'_>, tree: &Tree) -> bool
-    ensures { result ≡ spec.has_slots (list_all (spec.is_tree (chain_of of.now) (types_of peels.now types.now))) (tree_of tree.now) }
+    ensures { result ≡ spec.has_slots (list_all (spec.is_tree (chain_of of.now) (peeled_types peels.now types.now))) (tree_of tree.now) }
 {
     match tree {
         Tree::Slots(slots) => all_slots_fit(of, types, peels, slots.as_slice()),
@@ -101,7 +101,7 @@ fn slots_fit(of: &Chain, types: &[Ty], peels: &Peels<'_>, tree: &Tree) -> bool
 
 #[cycle(trees)]
 fn all_slots_fit(of: &Chain, types: &[Ty], peels: &Peels<'_>, slots: &[Tree]) -> bool
-    ensures { result ≡ list_all (λ t. spec.is_tree (chain_of of.now) (types_of peels.now types.now) (tree_of t)) slots.now }
+    ensures { result ≡ list_all (λ t. spec.is_tree (chain_of of.now) (peeled_types peels.now types.now) (tree_of t)) slots.now }
 {
     for i in 0..slots.len() {
         if !tree_fits(of, types, peels, &slots[i]) {
@@ -113,7 +113,7 @@ fn all_slots_fit(of: &Chain, types: &[Ty], peels: &Peels<'_>, slots: &[Tree]) ->
 
 #[cycle(trees)]
 fn trees_at_keys_fit(of: &Chain, types: &[Ty], peels: &Peels<'_>, tree: &Tree) -> bool
-    ensures { result ≡ spec.has_keyed (list_all (λ e. spec.is_tree (chain_of of.now) (types_of peels.now types.now) e.1)) (tree_of tree.now) }
+    ensures { result ≡ spec.has_keyed (list_all (λ e. spec.is_tree (chain_of of.now) (peeled_types peels.now types.now) e.1)) (tree_of tree.now) }
 {
     match tree {
         Tree::Keyed(entries) => all_entries_fit(of, types, peels, entries.as_slice()),
@@ -123,7 +123,7 @@ fn trees_at_keys_fit(of: &Chain, types: &[Ty], peels: &Peels<'_>, tree: &Tree) -
 
 #[cycle(trees)]
 fn all_entries_fit(of: &Chain, types: &[Ty], peels: &Peels<'_>, entries: &[KeyedTree]) -> bool
-    ensures { result ≡ list_all (λ e. spec.is_tree (chain_of of.now) (types_of peels.now types.now) (entry_of e).1) entries.now }
+    ensures { result ≡ list_all (λ e. spec.is_tree (chain_of of.now) (peeled_types peels.now types.now) (entry_of e).1) entries.now }
 {
     for i in 0..entries.len() {
         if !tree_fits(of, types, peels, &entries[i].tree) {

@@ -1,8 +1,9 @@
 //! Whether a value is one of a type. Under a state the tree is asked; everything else goes as for a type
 //! without one. Nothing here takes memory.
-ghost use Rattle.std.specs.Prelude.{◌≡◌, map};
+ghost use Rattle.std.specs.Prelude.{◌≡◌, ◌↔◌, true, map};
 ghost use Rattle.std.specs.List.{list_all};
 ghost use Rattle.agg_terms.specs.Fitting as spec;
+ghost use Rattle.agg_terms.specs.Trees.{IsValue};
 ghost use Rattle.value_types.specs.Folds.{chain_of, ty_of, value_of};
 
 use crate::links::Peels;
@@ -11,9 +12,10 @@ use crate::trees::tree_fits;
 use value_types::{Chain, Ty, Value};
 
 /// Whether the value is one of the type: a number within its width, a string, a list or a map of values of
-/// the type, NULL under Nullable, or a cell that holds a state tree of the chain.
+/// the type, NULL under Nullable, or a cell that holds a state tree of the chain. True exactly where it is.
 pub fn fits(value: &Value, ty: &Ty) -> bool
-    ensures { result ≡ spec.fits_value (ty_of ty.now) (value_of value.now) }
+    ensures test { result ≡ spec.fits_value (ty_of ty.now) (value_of value.now) }
+    ensures exact { (result ≡ true) ↔ IsValue (ty_of ty.now) (value_of value.now) }
 {
     type_fits(ty, value)
 }

@@ -21,7 +21,7 @@ use Rattle.line_reader.proofs.Handed.{input-before, told_of, told-is}
 use Rattle.line_reader.proofs.Lines.{lines_of-append, lines_of-nil, ends_line-append, short-append}
 use Rattle.batch_reader.specs.proving.Faults.{fault_of}
 use Rattle.batch_reader.specs.proving.Pushing.{PushesBlock, PushesLines, PushesText, RefusesBehind, StopsBefore}
-use Rattle.batch_reader.specs.Reading.{AreRowsUpTo, IsFront, IsReading, IsTakenOpen, ReadsRows, RefusesAt, RowCause}
+use Rattle.batch_reader.specs.Reading.{AreRowsUpTo, IsFront, IsBatchAnswer, IsTakenOpen, ReadsRows, RefusesAt, RowCause}
 use Rattle.batch_reader.specs.declared.fault.RowFault.{RowFault}
 use Rattle.batch_reader.specs.declared.fault.RowFault.TheVariants as fault
 use Rattle.batch_reader.proofs.Pushed.{rows-append}
@@ -251,7 +251,7 @@ read-refused reads types left mid now last first ahead after batch next block st
   reading = by_fault f pushed;
 }
   where
-    by_fault : (f : RowFault) → PushesBlock reads batch (lines_of block) next (Err f) → IsReading reads types last first ((so_far.front ++ block) ++ one.rest) (Err f)
+    by_fault : (f : RowFault) → PushesBlock reads batch (lines_of block) next (Err f) → IsBatchAnswer reads types last first ((so_far.front ++ block) ++ one.rest) (Err f)
     by_fault (fault.Row row column why) p = refuses-at reads types left mid now first ahead after batch block stops so_far one row (line.Field column why) p
     by_fault (fault.FieldCount row want have) p = refuses-at reads types left mid now first ahead after batch block stops so_far one row (line.FieldCount want have) p
     by_fault (fault.TooLong row) p = absurd p

@@ -21,8 +21,8 @@ use Rattle.batch_reader.specs.declared.fault.RowFault.TheVariants.{Row, FieldCou
 abbrev pub column_type : Column → Ty
 column_type column = column.ty
 
-abbrev pub types_of : Schema → List Ty
-types_of schema = map column_type schema.columns
+abbrev pub schema_types : Schema → List Ty
+schema_types schema = map column_type schema.columns
 
 -- The front of the input is whole lines that break no limit, and `rest` is what follows them.
 pub record IsFront (ahead : Ahead) (input front rest : List ℕ) : Type 0 where
@@ -57,22 +57,22 @@ pub record IsTakenOpen (now : Option (List ℕ)) (most_line room : ℕ) (rest : 
 
 -- The rows of the whole input, or the first thing that is wrong with it: a refused row, a broken limit, or a fault of reading. Each comes
 -- behind all complete lines before it, and those are rows.
-abbrev pub IsReading : ReadsStates → List Ty → Option (List ℕ) → Ahead → List ℕ → Result Rows RowFault → Type 0
-IsReading reads types now ahead input (Ok batch) =
+abbrev pub IsBatchAnswer : ReadsStates → List Ty → Option (List ℕ) → Ahead → List ℕ → Result Rows RowFault → Type 0
+IsBatchAnswer reads types now ahead input (Ok batch) =
     (batch.types ≡ types) × IsAtEnd now × IsFront ahead input input [] × AreRows reads types (lines_of input) batch.rows
-IsReading reads types now ahead input (Err (Row row column fault)) = RefusesAt reads types ahead input row (line.Field column fault)
-IsReading reads types now ahead input (Err (FieldCount row want have)) = RefusesAt reads types ahead input row (line.FieldCount want have)
-IsReading reads types now ahead input (Err (TooLong row)) =
+IsBatchAnswer reads types now ahead input (Err (Row row column fault)) = RefusesAt reads types ahead input row (line.Field column fault)
+IsBatchAnswer reads types now ahead input (Err (FieldCount row want have)) = RefusesAt reads types ahead input row (line.FieldCount want have)
+IsBatchAnswer reads types now ahead input (Err (TooLong row)) =
     AreRowsUpTo reads types ahead input (λ room rows rest. (row ≡ length rows + 1) × IsTooLong ahead.most_line room rest)
-IsReading reads types now ahead input (Err TooLarge) = AreRowsUpTo reads types ahead input (λ room rows rest. IsTooLarge ahead.most_line room rest)
-IsReading reads types now ahead input (Err Read) = AreRowsUpTo reads types ahead input (λ room rows rest. IsTakenOpen now ahead.most_line room rest)
-IsReading reads types now ahead input (Err OutOfMemory) = Unit {0}
+IsBatchAnswer reads types now ahead input (Err TooLarge) = AreRowsUpTo reads types ahead input (λ room rows rest. IsTooLarge ahead.most_line room rest)
+IsBatchAnswer reads types now ahead input (Err Read) = AreRowsUpTo reads types ahead input (λ room rows rest. IsTakenOpen now ahead.most_line room rest)
+IsBatchAnswer reads types now ahead input (Err OutOfMemory) = Unit {0}
 
 -- The answer to what a reader of lines and its source have left.
 pub record ReadsRows (reads : ReadsStates) (types : List Ty) (left now : Option (List ℕ)) (ahead : Ahead) (answer : Result Rows RowFault) : Type 0 where
   pub input : List ℕ
   pub from : IsInput left ahead input
-  pub reading : IsReading reads types now ahead input answer
+  pub reading : IsBatchAnswer reads types now ahead input answer
 
 -- The source's count of faults rose where the answer is a fault of reading, and is as before where it is a batch. A refused row may stand before
 -- a fault of reading, and want of memory says nothing.

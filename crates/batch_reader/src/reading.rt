@@ -8,7 +8,7 @@ ghost use Rattle.scalar_texts.specs.States.{ReadsStates};
 ghost use Rattle.row_texts.specs.Rows.{AreReadable};
 ghost use Rattle.batch_reader.specs.proving.Pieces.{AreOf};
 ghost use Rattle.batch_reader.specs.proving.Pushing.{PushesBlock, PushesText};
-ghost use Rattle.batch_reader.specs.Reading.{ReadsRows, RowCause, types_of};
+ghost use Rattle.batch_reader.specs.Reading.{ReadsRows, RowCause, schema_types};
 
 use crate::RowFault;
 use crate::fault::fault_of;
@@ -218,8 +218,8 @@ fn read_cut<H: Threads + Sync, S: Source, R: StateReader + Sync>(
     cutting: Cutting,
 ) -> Result<Batch, RowFault>
     requires few { length schema.now.columns < 2 ^ 32 }
-    requires readable { AreReadable (R.takes reader.now) (types_of schema.now) }
-    ensures rows { ReadsRows (R.reads reader.now) (types_of schema.now) (S.left lines.entry.source.now) (S.left lines.exit.0.now) lines.entry.ahead result }
+    requires readable { AreReadable (R.takes reader.now) (schema_types schema.now) }
+    ensures rows { ReadsRows (R.reads reader.now) (schema_types schema.now) (S.left lines.entry.source.now) (S.left lines.exit.0.now) lines.entry.ahead result }
     ensures cause { RowCause (S.faults lines.entry.source.now) (S.faults lines.exit.0.now) result }
 {
     let LineReader { source, ahead } = lines;
@@ -250,8 +250,8 @@ pub fn read_rows<H: Threads + Sync, S: Source, R: StateReader + Sync>(
     reader: &R,
 ) -> Result<Batch, RowFault>
     requires few { length schema.now.columns < 2 ^ 32 }
-    requires readable { AreReadable (R.takes reader.now) (types_of schema.now) }
-    ensures rows { ReadsRows (R.reads reader.now) (types_of schema.now) (S.left lines.entry.source.now) (S.left lines.exit.0.now) lines.entry.ahead result }
+    requires readable { AreReadable (R.takes reader.now) (schema_types schema.now) }
+    ensures rows { ReadsRows (R.reads reader.now) (schema_types schema.now) (S.left lines.entry.source.now) (S.left lines.exit.0.now) lines.entry.ahead result }
     ensures cause { RowCause (S.faults lines.entry.source.now) (S.faults lines.exit.0.now) result }
 {
     let cutting = Cutting {
@@ -276,8 +276,8 @@ pub fn read_rows_in_pieces<H: Threads + Sync, S: Source, R: StateReader + Sync>(
     most_pieces: usize,
 ) -> Result<Batch, RowFault>
     requires few { length schema.now.columns < 2 ^ 32 }
-    requires readable { AreReadable (R.takes reader.now) (types_of schema.now) }
-    ensures rows { ReadsRows (R.reads reader.now) (types_of schema.now) (S.left lines.entry.source.now) (S.left lines.exit.0.now) lines.entry.ahead result }
+    requires readable { AreReadable (R.takes reader.now) (schema_types schema.now) }
+    ensures rows { ReadsRows (R.reads reader.now) (schema_types schema.now) (S.left lines.entry.source.now) (S.left lines.exit.0.now) lines.entry.ahead result }
     ensures cause { RowCause (S.faults lines.entry.source.now) (S.faults lines.exit.0.now) result }
 {
     let cutting = Cutting {

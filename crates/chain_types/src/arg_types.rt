@@ -39,7 +39,7 @@ impl Part {
 
 /// The part of each that a suffix passes inward.
 pub fn within<'a>(alloc: Global, part: Part, args: &[Arg<'a>]) -> Result<Vec<Arg<'a>>, OutOfMemory>
-    ensures { IfOk result (λ all. map arg_of all.items ≡ rules.within (part_of part) (map arg_of args.now)) }
+    ensures { IfOk result (λ all. map arg_of all.items ≡ rules.with_parts (part_of part) (map arg_of args.now)) }
 {
     let mut all = Vec::new(alloc);
     for arg in args {

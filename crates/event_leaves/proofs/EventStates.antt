@@ -8,9 +8,9 @@ use Rattle.agg_terms.specs.Lists.{Each, NotFalling, is_empty, rest_of}
 use Rattle.agg_terms.specs.Order.{ascending}
 use Rattle.agg_terms.specs.Trees.{IsEvent, IsEventTree, IsValue, IsPlain, by_time, is_one}
 use Rattle.agg_terms.specs.Types.{conditions}
-use Rattle.agg_terms.specs.Values.{Empty, Event, Events, Nil, Num, Tree, Value}
+use Rattle.agg_terms.specs.Values.{Empty, Event, Events, Nil, Num, Tree, Value, is_null}
 use Rattle.agg_meaning.specs.Events.{event, events, is_some_mask, mask_of, mets, time_of}
-use Rattle.agg_meaning.specs.Feeds.{AreValues, is_null, no_null, widened, widened_first}
+use Rattle.agg_meaning.specs.Feeds.{AreValues, no_null, widened, widened_first}
 use Rattle.agg_meaning.specs.Functions.{unless_none}
 use Rattle.agg_meaning.specs.Lawful.{IsTime, TakesTime}
 use Rattle.agg_meaning.proofs.Kept.{each_ascending, each_filter, each_append}

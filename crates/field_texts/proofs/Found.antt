@@ -4,15 +4,15 @@ use Rattle.first_fault.specs.Machine.{run}
 use Rattle.first_fault.proofs.Machines.{letter_ok, end_ok}
 use Rattle.first_fault.specs.Grammar.{Then}
 use Rattle.tsv_text.specs.Escapes as escapes
-use Rattle.tsv_text.specs.Escapes.{Piece, plain, letter, pieces_then}
-use Rattle.field_texts.specs.Syntax.{Shape, number, string, nullable, array, map_of, IsSpaces, Token, AreDigits, IsDigits, IsNumber, IsHex, InQuotes, IsQuoted, MoreOf, Closing, Opened, SyntaxOf}
+use Rattle.tsv_text.specs.Escapes.{Piece, plain, letter, pieces_then, is_hex_digit}
+use Rattle.field_texts.specs.Syntax.{FieldForm, number, string, nullable, array, map_of, IsSpaces, Token, AreDigits, IsDigits, IsNumber, InQuotes, IsQuoted, MoreOf, Closing, Opened, SyntaxOf}
 use Rattle.field_texts.specs.declared.mark.Mark.{Mark}
 use Rattle.field_texts.specs.declared.mark.Mark.TheVariants.{Space, Plus, Minus, Digit, Quote, Backslash, Comma, Colon, OpenBracket, CloseBracket, OpenBrace, CloseBrace, LetterX, HexLetter, LetterN, LetterU, LetterL, Other}
 use Rattle.field_texts.specs.Machine.{mark_of, Goal, value, first, more, first_pair, more_pair, between, digits, more_digits, quoted, escaped, hexed, letter_u, letter_l, opened, before, step_on, step, done}
-use Rattle.field_texts.proofs.Marks.{IsMark, is_mark}
+use Rattle.field_texts.proofs.Marks.{IsMark, is_mark, hex_is}
 
 -- an entry of a map
-abbrev pub Entry : Shape → Shape → List ℕ → Type 0
+abbrev pub Entry : FieldForm → FieldForm → List ℕ → Type 0
 Entry key ty = Then (SyntaxOf key) (Then (Token 58) (SyntaxOf ty))
 
 -- what the goal stands for
@@ -27,7 +27,7 @@ Of digits t = IsDigits t
 Of more_digits t = AreDigits t
 Of quoted t = InQuotes t
 Of escaped t = InQuotes (92 ∷ t)
-Of hexed t = (b : ℕ) × IsHex b × (t ≡ b ∷ [])
+Of hexed t = (b : ℕ) × (is_hex_digit b ≡ true) × (t ≡ b ∷ [])
 Of letter_u t = t ≡ 85 ∷ []
 Of letter_l t = t ≡ 76 ∷ []
 
@@ -65,7 +65,7 @@ space_token M t r = push {L = IsSpaces} {M = IsSpaces} {K = M} 32 t (λ a s. (re
 space_then : (L K : List ℕ → Type 0) → ((a : List ℕ) → L a → L (32 ∷ a)) → (t : List ℕ) → Then L K t → Then L K (32 ∷ t)
 space_then L K f t r = push {L = L} {M = L} {K = K} 32 t f r
 
-space_value : (ty : Shape) (t : List ℕ) → SyntaxOf ty t → SyntaxOf ty (32 ∷ t)
+space_value : (ty : FieldForm) (t : List ℕ) → SyntaxOf ty t → SyntaxOf ty (32 ∷ t)
 space_value number t r = space_token IsNumber t r
 space_value string t r = space_token IsQuoted t r
 space_value (nullable ty) t (inl r) = inl (space_value ty t r)
@@ -73,7 +73,7 @@ space_value (nullable ty) t (inr r) = inr (space_token (λ t. t ≡ codes "NULL"
 space_value (array ty) t r = space_then (Token 91) (Opened (SyntaxOf ty) 93) (space_token (λ t. t ≡ 91 ∷ [])) t r
 space_value (map_of key ty) t r = space_then (Token 123) (Opened (Entry key ty) 125) (space_token (λ t. t ≡ 123 ∷ [])) t r
 
-space_entry : (key ty : Shape) (t : List ℕ) → Entry key ty t → Entry key ty (32 ∷ t)
+space_entry : (key ty : FieldForm) (t : List ℕ) → Entry key ty t → Entry key ty (32 ∷ t)
 space_entry key ty t r = space_then (SyntaxOf key) (Then (Token 58) (SyntaxOf ty)) (space_value key) t r
 
 space_closing : (L : List ℕ → Type 0) (close : ℕ) (t : List ℕ) → Closing L close t → Closing L close (32 ∷ t)
@@ -96,7 +96,7 @@ some_is : (x y : List Goal) → (let o : Option (List Goal) = Some x in o) ≡ S
 some_is x y e = cc
 
 -- the first byte of a value, and what has to follow it
-opened_found : (ty : Shape) (m : Mark) (b : ℕ) (new : List Goal) (K : List ℕ → Type 0) (t : List ℕ) → IsMark m b → opened ty m ≡ Some new → Goes new K t → Then (SyntaxOf ty) K (b ∷ t)
+opened_found : (ty : FieldForm) (m : Mark) (b : ℕ) (new : List Goal) (K : List ℕ → Type 0) (t : List ℕ) → IsMark m b → opened ty m ≡ Some new → Goes new K t → Then (SyntaxOf ty) K (b ∷ t)
 opened_found number Plus b new K t is e r =
     push {L = IsDigits} {M = SyntaxOf number} {K = K} b t (λ a d. number_of (b ∷ a) (inr (inl is, d))) (subst (λ n. Goes n K t) (sym (some_is _ new e)) r)
 opened_found number Minus b new K t is e r =
@@ -147,7 +147,7 @@ before_ok : (s : List Goal) (o : Option (List Goal)) (t : List Goal) → before 
 before_ok s (Some new) t e = (new, refl, some_is _ t e)
 before_ok s None t e = absurd cc
 
-opened_sound : (ty : Shape) (m : Mark) (new s : List Goal) → opened ty m ≡ Some new → Behind s → Sound s → Sound (new ++ s)
+opened_sound : (ty : FieldForm) (m : Mark) (new s : List Goal) → opened ty m ≡ Some new → Behind s → Sound s → Sound (new ++ s)
 opened_sound number Plus new s e b h = subst (λ n. Sound (n ++ s)) (some_is _ new e) (b, h)
 opened_sound number Minus new s e b h = subst (λ n. Sound (n ++ s)) (some_is _ new e) (b, h)
 opened_sound number Digit new s e b h = subst (λ n. Sound (n ++ s)) (some_is _ new e) (b, h)
@@ -165,7 +165,7 @@ goes_is : (Q : List Goal → Type 0) (s t : List Goal) → Q s → (let o : Opti
 goes_is Q s t q e = subst Q (some_is s t e) q
 
 -- the first byte of a value
-moves_value : (ty : Shape) (m : Mark) (s : List Goal) (b : ℕ) (rest : List ℕ) (t : List Goal) → IsMark m b → Behind s → Sound s → before s (opened ty m) ≡ Some t
+moves_value : (ty : FieldForm) (m : Mark) (s : List Goal) (b : ℕ) (rest : List ℕ) (t : List Goal) → IsMark m b → Behind s → Sound s → before s (opened ty m) ≡ Some t
     → Sound t × (Goes t IsSpaces rest → Then (SyntaxOf ty) (Goes s IsSpaces) (b ∷ rest))
 moves_value ty m s b rest t is h k e =
     let p = before_ok s (opened ty m) t e in
@@ -225,7 +225,7 @@ opened_one L close K t r =
     let q = regroup {L = L} {M = Closing L close} {K = K} t r in
     record { front = q.front; rest = q.rest; first = inr q.first; second = q.second; whole = q.whole }
 
-entry_group : (key ty : Shape) (K : List ℕ → Type 0) (t : List ℕ) → Then (SyntaxOf key) (Then (Token 58) (Then (SyntaxOf ty) K)) t → Then (Entry key ty) K t
+entry_group : (key ty : FieldForm) (K : List ℕ → Type 0) (t : List ℕ) → Then (SyntaxOf key) (Then (Token 58) (Then (SyntaxOf ty) K)) t → Then (Entry key ty) K t
 entry_group key ty K t r =
     regroup {L = SyntaxOf key} {M = Then (Token 58) (SyntaxOf ty)} {K = K} t
     (record { front = r.front; rest = r.rest; first = r.first; second = regroup {L = Token 58} {M = SyntaxOf ty} {K = K} r.rest r.second; whole = r.whole })
@@ -278,8 +278,8 @@ moves (quoted ∷ s) m b rest t is h e =
 moves (escaped ∷ s) LetterX b rest t is h e = goes_is (StepsTo (escaped ∷ s) b rest) _ t (h, λ r. hex_pair s b rest is r) e
 moves (escaped ∷ s) m b rest t is h e =
     goes_is (StepsTo (escaped ∷ s) b rest) _ t (h, λ r. push {L = InQuotes} {M = λ a. InQuotes (92 ∷ a)} {K = Goes s IsSpaces} b rest (λ a q. (letter b ∷ q.0, (short_byte m b is refl, q.1), ap (λ x. 92 ∷ b ∷ x) q.2)) r) e
-moves (hexed ∷ s) Digit b rest t is h e = goes_is (StepsTo (hexed ∷ s) b rest) _ t (h, λ r. ends_goal hexed s b b rest refl (b, inl is, refl) r) e
-moves (hexed ∷ s) HexLetter b rest t is h e = goes_is (StepsTo (hexed ∷ s) b rest) _ t (h, λ r. ends_goal hexed s b b rest refl (b, inr is, refl) r) e
+moves (hexed ∷ s) Digit b rest t is h e = goes_is (StepsTo (hexed ∷ s) b rest) _ t (h, λ r. ends_goal hexed s b b rest refl (b, hex_is b (inl is), refl) r) e
+moves (hexed ∷ s) HexLetter b rest t is h e = goes_is (StepsTo (hexed ∷ s) b rest) _ t (h, λ r. ends_goal hexed s b b rest refl (b, hex_is b (inr is), refl) r) e
 moves (letter_u ∷ s) LetterU b rest t is h e = goes_is (StepsTo (letter_u ∷ s) b rest) _ t (h, λ r. ends_goal letter_u s b 85 rest is refl r) e
 moves (letter_l ∷ s) LetterL b rest t is h e = goes_is (StepsTo (letter_l ∷ s) b rest) _ t (h, λ r. ends_goal letter_l s b 76 rest is refl r) e
 moves s m b rest t is h e = absurd cc

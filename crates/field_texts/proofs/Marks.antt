@@ -2,7 +2,8 @@
 use Rattle.std.proofs.Common.{◌≡◌, ℕ, ◌≤◌, Bool, true, false, cond, refl, arith, inl, inr, eqb, leb, ◌&&◌, ◌||◌, ◌⊎◌}
 use Rattle.std.proofs.lemmas.Bool.{leb-true, eqb-true, eqb-false, and_parts, or_cases}
 use Rattle.std.proofs.lemmas.Bool.Decides.{nat_tests}
-use Rattle.field_texts.specs.Syntax.{IsDigit, IsHex}
+use Rattle.tsv_text.specs.Escapes.{is_hex_digit}
+use Rattle.field_texts.specs.Syntax.{IsDigit}
 use Rattle.field_texts.specs.declared.mark.Mark.{Mark}
 use Rattle.field_texts.specs.declared.mark.Mark.TheVariants.{Space, Plus, Minus, Quote, Backslash, Comma, Colon, OpenBracket, CloseBracket, OpenBrace, CloseBrace, LetterX, LetterN, LetterU, LetterL, Digit, HexLetter, Other}
 use Rattle.field_texts.specs.Machine.{mark_of}
@@ -65,7 +66,28 @@ is_mark b =
 pub mark_digit : (b : ℕ) → IsDigit b → mark_of b ≡ Digit
 mark_digit b h = grind (arith, nat_tests, h)
 
-pub mark_hex : (b : ℕ) → IsHex b → (mark_of b ≡ Digit) ⊎ (mark_of b ≡ HexLetter)
-mark_hex b (inl h) = inl (mark_digit b h)
-mark_hex b (inr (inl h)) = inr (grind (arith, nat_tests, h))
-mark_hex b (inr (inr h)) = inr (grind (arith, nat_tests, h))
+-- a hexadecimal digit, by where it stands
+abbrev pub IsHex : ℕ → Type 0
+IsHex b = IsDigit b ⊎ (((97 ≤ b) × (b ≤ 102)) ⊎ ((65 ≤ b) × (b ≤ 70)))
+
+pub hex_stands : (b : ℕ) → is_hex_digit b ≡ true → IsHex b
+hex_stands b e = elim (or_cases ((leb 48 b && leb b 57) || (leb 97 b && leb b 102)) (leb 65 b && leb b 70) e) [
+  | inr up ↦ inr (inr (between 65 70 b up))
+  | inl low ↦ elim (or_cases (leb 48 b && leb b 57) (leb 97 b && leb b 102) low) [
+    | inl d ↦ inl (between 48 57 b d)
+    | inr l ↦ inr (inl (between 97 102 b l))
+  ]
+]
+
+pub hex_is : (b : ℕ) → IsHex b → is_hex_digit b ≡ true
+hex_is b (inl h) = grind (arith, nat_tests, h)
+hex_is b (inr (inl h)) = grind (arith, nat_tests, h)
+hex_is b (inr (inr h)) = grind (arith, nat_tests, h)
+
+hex_mark : (b : ℕ) → IsHex b → (mark_of b ≡ Digit) ⊎ (mark_of b ≡ HexLetter)
+hex_mark b (inl h) = inl (mark_digit b h)
+hex_mark b (inr (inl h)) = inr (grind (arith, nat_tests, h))
+hex_mark b (inr (inr h)) = inr (grind (arith, nat_tests, h))
+
+pub mark_hex : (b : ℕ) → is_hex_digit b ≡ true → (mark_of b ≡ Digit) ⊎ (mark_of b ≡ HexLetter)
+mark_hex b e = hex_mark b (hex_stands b e)

@@ -1,11 +1,11 @@
 -- What is in the grammar is accepted, and every stack that is reached can still be emptied.
-use Rattle.std.proofs.Common.{◌≡◌, ℕ, zero, suc, List, [], ◌∷◌, ◌++◌, codes, Option, Some, None, Result, Ok, refl, sym, ap, subst, ◌∙◌, append_assoc, arith, inl, inr, ◌⊎◌}
+use Rattle.std.proofs.Common.{◌≡◌, ℕ, zero, suc, true, List, [], ◌∷◌, ◌++◌, codes, Option, Some, None, Result, Ok, refl, sym, ap, subst, ◌∙◌, append_assoc, arith, inl, inr, ◌⊎◌}
 use Rattle.first_fault.specs.Machine.{run, later, at_letter}
 use Rattle.first_fault.proofs.Machines.{later_ok}
 use Rattle.first_fault.specs.Grammar.{Then}
 use Rattle.tsv_text.specs.Escapes as escapes
-use Rattle.tsv_text.specs.Escapes.{Piece, plain, letter, pieces_then}
-use Rattle.field_texts.specs.Syntax.{Shape, number, string, nullable, array, map_of, IsSpaces, Token, AreDigits, IsDigits, IsNumber, IsHex, AllFitInQuotes, closed_text, IsQuoted, MoreOf, Closing, Opened, SyntaxOf}
+use Rattle.tsv_text.specs.Escapes.{Piece, plain, letter, pieces_then, is_hex_digit}
+use Rattle.field_texts.specs.Syntax.{FieldForm, number, string, nullable, array, map_of, IsSpaces, Token, AreDigits, IsDigits, IsNumber, AllFitInQuotes, closed_text, IsQuoted, MoreOf, Closing, Opened, SyntaxOf}
 use Rattle.field_texts.specs.declared.mark.Mark.{Mark}
 use Rattle.field_texts.specs.declared.mark.Mark.TheVariants.{Space, Digit, Quote, Backslash, CloseBracket, CloseBrace, LetterX, LetterN}
 use Rattle.field_texts.specs.Machine.{mark_of, Goal, value, first, more, first_pair, more_pair, between, digits, more_digits, quoted, escaped, hexed, letter_u, letter_l, opened, before, step_on, step, done}
@@ -79,7 +79,7 @@ escaped_mark : (s : List Goal) (m : Mark) → (m ≡ LetterX → ⊥) → step_o
 escaped_mark s LetterX x = absurd (x refl)
 escaped_mark s m x = refl
 
-hex_run : (s : List Goal) (b : ℕ) (t : List ℕ) → IsHex b → Runs s t → Runs (hexed ∷ s) (b ∷ t)
+hex_run : (s : List Goal) (b : ℕ) (t : List ℕ) → is_hex_digit b ≡ true → Runs s t → Runs (hexed ∷ s) (b ∷ t)
 hex_run s b t x h = elim (mark_hex b x) [
   | inl e ↦ rw e (ap later h)
   | inr e ↦ rw e (ap later h)
@@ -108,7 +108,7 @@ quoted_run s (b ∷ a) t q h =
 abbrev Null : List Goal
 Null = letter_u ∷ letter_l ∷ letter_l ∷ []
 
-null_open : (ty : Shape) → (opened ty LetterN ≡ None) ⊎ (opened ty LetterN ≡ Some Null)
+null_open : (ty : FieldForm) → (opened ty LetterN ≡ None) ⊎ (opened ty LetterN ≡ Some Null)
 null_open number = inl refl
 null_open string = inl refl
 null_open (nullable ty) = inr refl
@@ -119,7 +119,7 @@ before_none : (s : List Goal) (o : Option (List Goal)) → o ≡ None → before
 before_none s (Some n) e = absurd cc
 before_none s None e = refl
 
-nullable_mark : (ty : Shape) (s : List Goal) (m : Mark) (read : List Goal → Result (Unit {0}) ℕ) → (read (value ty ∷ s) ≡ Ok tt → read (value (nullable ty) ∷ s) ≡ Ok tt)
+nullable_mark : (ty : FieldForm) (s : List Goal) (m : Mark) (read : List Goal → Result (Unit {0}) ℕ) → (read (value ty ∷ s) ≡ Ok tt → read (value (nullable ty) ∷ s) ≡ Ok tt)
     → at_letter read (step_on (value ty ∷ s) m) ≡ Ok tt → at_letter read (step_on (value (nullable ty) ∷ s) m) ≡ Ok tt
 nullable_mark ty s Space read again h = ap later (again (later_ok (read (value ty ∷ s)) tt h))
 nullable_mark ty s LetterN read again h = elim (null_open ty) [
@@ -128,75 +128,75 @@ nullable_mark ty s LetterN read again h = elim (null_open ty) [
 ]
 nullable_mark ty s m read again h = h
 
-nullable_run : (ty : Shape) (s : List Goal) (t : List ℕ) → Runs (value ty ∷ s) t → Runs (value (nullable ty) ∷ s) t
+nullable_run : (ty : FieldForm) (s : List Goal) (t : List ℕ) → Runs (value ty ∷ s) t → Runs (value (nullable ty) ∷ s) t
 nullable_run ty s [] h = absurd cc
 nullable_run ty s (b ∷ t) h = nullable_mark ty s (mark_of b) (λ u. run step done u t) (nullable_run ty s t) h
 
-no_close : (ty : Shape) → (opened ty CloseBracket ≡ None) × (opened ty CloseBrace ≡ None)
+no_close : (ty : FieldForm) → (opened ty CloseBracket ≡ None) × (opened ty CloseBrace ≡ None)
 no_close number = (refl, refl)
 no_close string = (refl, refl)
 no_close (nullable ty) = no_close ty
 no_close (array ty) = (refl, refl)
 no_close (map_of key ty) = (refl, refl)
 
-first_mark : (ty : Shape) (s : List Goal) (m : Mark) (read : List Goal → Result (Unit {0}) ℕ) → (read (value ty ∷ more ty ∷ s) ≡ Ok tt → read (first ty ∷ s) ≡ Ok tt)
+first_mark : (ty : FieldForm) (s : List Goal) (m : Mark) (read : List Goal → Result (Unit {0}) ℕ) → (read (value ty ∷ more ty ∷ s) ≡ Ok tt → read (first ty ∷ s) ≡ Ok tt)
     → at_letter read (step_on (value ty ∷ more ty ∷ s) m) ≡ Ok tt → at_letter read (step_on (first ty ∷ s) m) ≡ Ok tt
 first_mark ty s Space read again h = ap later (again (later_ok (read (value ty ∷ more ty ∷ s)) tt h))
 first_mark ty s CloseBracket read again h = absurd (none_fails read (before (more ty ∷ s) (opened ty CloseBracket)) (before_none _ _ (no_close ty).0) h)
 first_mark ty s m read again h = h
 
-first_run : (ty : Shape) (s : List Goal) (t : List ℕ) → Runs (value ty ∷ more ty ∷ s) t → Runs (first ty ∷ s) t
+first_run : (ty : FieldForm) (s : List Goal) (t : List ℕ) → Runs (value ty ∷ more ty ∷ s) t → Runs (first ty ∷ s) t
 first_run ty s [] h = absurd cc
 first_run ty s (b ∷ t) h = first_mark ty s (mark_of b) (λ u. run step done u t) (first_run ty s t) h
 
-pair_mark : (key ty : Shape) (s : List Goal) (m : Mark) (read : List Goal → Result (Unit {0}) ℕ) → (read (value key ∷ between ∷ value ty ∷ more_pair key ty ∷ s) ≡ Ok tt → read (first_pair key ty ∷ s) ≡ Ok tt)
+pair_mark : (key ty : FieldForm) (s : List Goal) (m : Mark) (read : List Goal → Result (Unit {0}) ℕ) → (read (value key ∷ between ∷ value ty ∷ more_pair key ty ∷ s) ≡ Ok tt → read (first_pair key ty ∷ s) ≡ Ok tt)
     → at_letter read (step_on (value key ∷ between ∷ value ty ∷ more_pair key ty ∷ s) m) ≡ Ok tt → at_letter read (step_on (first_pair key ty ∷ s) m) ≡ Ok tt
 pair_mark key ty s Space read again h = ap later (again (later_ok (read (value key ∷ between ∷ value ty ∷ more_pair key ty ∷ s)) tt h))
 pair_mark key ty s CloseBrace read again h = absurd (none_fails read (before (between ∷ value ty ∷ more_pair key ty ∷ s) (opened key CloseBrace)) (before_none _ _ (no_close key).1) h)
 pair_mark key ty s m read again h = h
 
-pair_run : (key ty : Shape) (s : List Goal) (t : List ℕ) → Runs (value key ∷ between ∷ value ty ∷ more_pair key ty ∷ s) t → Runs (first_pair key ty ∷ s) t
+pair_run : (key ty : FieldForm) (s : List Goal) (t : List ℕ) → Runs (value key ∷ between ∷ value ty ∷ more_pair key ty ∷ s) t → Runs (first_pair key ty ∷ s) t
 pair_run key ty s [] h = absurd cc
 pair_run key ty s (b ∷ t) h = pair_mark key ty s (mark_of b) (λ u. run step done u t) (pair_run key ty s t) h
 
 -- ---- values
 
 -- a value of the type is accepted
-abbrev Accepts : Shape → Type 0
+abbrev Accepts : FieldForm → Type 0
 Accepts ty = (a : List ℕ) → SyntaxOf ty a → (s : List Goal) → Behind s → (t : List ℕ) → Runs s t → Runs (value ty ∷ s) (a ++ t)
 
-closing_run : (ty : Shape) → Accepts ty → (n : ℕ) (s : List Goal) (a t : List ℕ) → MoreOf (SyntaxOf ty) 93 n a → Runs s t → Runs (more ty ∷ s) (a ++ t)
+closing_run : (ty : FieldForm) → Accepts ty → (n : ℕ) (s : List Goal) (a t : List ℕ) → MoreOf (SyntaxOf ty) 93 n a → Runs s t → Runs (more ty ∷ s) (a ++ t)
 closing_run ty v zero s a t r h = token_run (more ty ∷ s) s 93 refl refl a r t h
 closing_run ty v (suc n) s a t r h =
     then_run (more ty ∷ s) (Token 44) (Then (SyntaxOf ty) (MoreOf (SyntaxOf ty) 93 n)) a r t (λ c d k e.
     token_run (more ty ∷ s) (value ty ∷ more ty ∷ s) 44 refl refl c k (d ++ t)
     (then_run (value ty ∷ more ty ∷ s) (SyntaxOf ty) (MoreOf (SyntaxOf ty) 93 n) d e t (λ f g p q. v f p (more ty ∷ s) tt (g ++ t) (closing_run ty v n s g t q h))))
 
-opened_run : (ty : Shape) → Accepts ty → (s : List Goal) (a t : List ℕ) → Opened (SyntaxOf ty) 93 a → Runs s t → Runs (first ty ∷ s) (a ++ t)
+opened_run : (ty : FieldForm) → Accepts ty → (s : List Goal) (a t : List ℕ) → Opened (SyntaxOf ty) 93 a → Runs s t → Runs (first ty ∷ s) (a ++ t)
 opened_run ty v s a t (inl r) h = token_run (first ty ∷ s) s 93 refl refl a r t h
 opened_run ty v s a t (inr r) h =
     first_run ty s (a ++ t) (then_run (value ty ∷ more ty ∷ s) (SyntaxOf ty) (Closing (SyntaxOf ty) 93) a r t (λ f g p q. v f p (more ty ∷ s) tt (g ++ t) (closing_run ty v q.0 s g t q.1 h)))
 
-entry_run : (key ty : Shape) → Accepts key → Accepts ty → (s : List Goal) → (a t : List ℕ) → Entry key ty a → Runs (more_pair key ty ∷ s) t → Runs (value key ∷ between ∷ value ty ∷ more_pair key ty ∷ s) (a ++ t)
+entry_run : (key ty : FieldForm) → Accepts key → Accepts ty → (s : List Goal) → (a t : List ℕ) → Entry key ty a → Runs (more_pair key ty ∷ s) t → Runs (value key ∷ between ∷ value ty ∷ more_pair key ty ∷ s) (a ++ t)
 entry_run key ty vk v s a t r h =
     then_run (value key ∷ between ∷ value ty ∷ more_pair key ty ∷ s) (SyntaxOf key) (Then (Token 58) (SyntaxOf ty)) a r t (λ c d p e.
     vk c p (between ∷ value ty ∷ more_pair key ty ∷ s) tt (d ++ t)
     (then_run (between ∷ value ty ∷ more_pair key ty ∷ s) (Token 58) (SyntaxOf ty) d e t (λ f g k q.
     token_run (between ∷ value ty ∷ more_pair key ty ∷ s) (value ty ∷ more_pair key ty ∷ s) 58 refl refl f k (g ++ t) (v g q (more_pair key ty ∷ s) tt t h))))
 
-closing_pairs : (key ty : Shape) → Accepts key → Accepts ty → (n : ℕ) (s : List Goal) (a t : List ℕ) → MoreOf (Entry key ty) 125 n a → Runs s t → Runs (more_pair key ty ∷ s) (a ++ t)
+closing_pairs : (key ty : FieldForm) → Accepts key → Accepts ty → (n : ℕ) (s : List Goal) (a t : List ℕ) → MoreOf (Entry key ty) 125 n a → Runs s t → Runs (more_pair key ty ∷ s) (a ++ t)
 closing_pairs key ty vk v zero s a t r h = token_run (more_pair key ty ∷ s) s 125 refl refl a r t h
 closing_pairs key ty vk v (suc n) s a t r h =
     then_run (more_pair key ty ∷ s) (Token 44) (Then (Entry key ty) (MoreOf (Entry key ty) 125 n)) a r t (λ c d k e.
     token_run (more_pair key ty ∷ s) (value key ∷ between ∷ value ty ∷ more_pair key ty ∷ s) 44 refl refl c k (d ++ t)
     (then_run (value key ∷ between ∷ value ty ∷ more_pair key ty ∷ s) (Entry key ty) (MoreOf (Entry key ty) 125 n) d e t (λ f g p q. entry_run key ty vk v s f (g ++ t) p (closing_pairs key ty vk v n s g t q h))))
 
-opened_pairs : (key ty : Shape) → Accepts key → Accepts ty → (s : List Goal) (a t : List ℕ) → Opened (Entry key ty) 125 a → Runs s t → Runs (first_pair key ty ∷ s) (a ++ t)
+opened_pairs : (key ty : FieldForm) → Accepts key → Accepts ty → (s : List Goal) (a t : List ℕ) → Opened (Entry key ty) 125 a → Runs s t → Runs (first_pair key ty ∷ s) (a ++ t)
 opened_pairs key ty vk v s a t (inl r) h = token_run (first_pair key ty ∷ s) s 125 refl refl a r t h
 opened_pairs key ty vk v s a t (inr r) h =
     pair_run key ty s (a ++ t) (then_run (value key ∷ between ∷ value ty ∷ more_pair key ty ∷ s) (Entry key ty) (Closing (Entry key ty) 125) a r t (λ f g p q. entry_run key ty vk v s f (g ++ t) p (closing_pairs key ty vk v q.0 s g t q.1 h)))
 
-pub accepts : (ty : Shape) → Accepts ty
+pub accepts : (ty : FieldForm) → Accepts ty
 accepts number a r s b t h = after_spaces (value number ∷ s) IsNumber refl a r t (λ c n. number_run s c t n b h)
 accepts string a r s b t h = after_spaces (value string ∷ s) IsQuoted refl a r t (λ c q. quoted_run s c t q h)
 accepts (nullable ty) a (inl r) s b t h = nullable_run ty s (a ++ t) (accepts ty a r s b t h)
@@ -214,7 +214,7 @@ accepts (map_of key ty) a r s b t h =
 abbrev token_of : (b : ℕ) → Token b (b ∷ [])
 token_of b = record { front = []; rest = b ∷ []; first = tt; second = refl; whole = refl }
 
-example : (ty : Shape) → (a : List ℕ) × SyntaxOf ty a
+example : (ty : FieldForm) → (a : List ℕ) × SyntaxOf ty a
 example number = (48 ∷ [], record { front = []; rest = 48 ∷ []; first = tt; second = inl ((omega arith, omega arith), tt); whole = refl })
 example string = (39 ∷ 39 ∷ [], record { front = []; rest = 39 ∷ 39 ∷ []; first = tt; second = (refl, ([], tt, refl)); whole = refl })
 example (nullable ty) = let r = example ty in (r.0, inl r.1)

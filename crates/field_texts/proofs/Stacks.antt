@@ -7,7 +7,7 @@ use Rattle.field_texts.specs.declared.mark.Mark.TheVariants.{LetterN}
 use Rattle.agg_terms.specs.Chains.{Ty, Whole, Signed, Str, Arr, MapTy, Nullable, StateOf}
 use Rattle.agg_terms.specs.Types.{bare, may_be_null}
 use Rattle.first_fault.specs.Machine.{at_end, shifted}
-use Rattle.field_texts.specs.Syntax.{Shape, shape_of}
+use Rattle.field_texts.specs.Syntax.{FieldForm, form_of}
 use Rattle.field_texts.specs.Machine as machine
 use Rattle.field_texts.specs.Machine.{before, done, letter_l, letter_u, mark_of, opened, step, step_on}
 use Rattle.field_texts.specs.proving.Goals.{goal_seen, goes_to, is_letter_n, stack_of}
@@ -17,7 +17,7 @@ stack_push goals g = ap (map goal_seen) (reverse-append goals (g ∷ []))
 
 -- ---- NULL, and the type without Nullable
 
-null_is : (t : Ty) (m : Mark) → (is_letter_n m && may_be_null t) ≡ true → opened (shape_of t) m ≡ Some (letter_u ∷ letter_l ∷ letter_l ∷ [])
+null_is : (t : Ty) (m : Mark) → (is_letter_n m && may_be_null t) ≡ true → opened (form_of t) m ≡ Some (letter_u ∷ letter_l ∷ letter_l ∷ [])
 null_is (Nullable t) LetterN e = refl
 null_is (Nullable t) m e = absurd cc
 null_is (Whole n) LetterN e = absurd cc
@@ -33,7 +33,7 @@ null_is (Arr t) m e = absurd cc
 null_is (MapTy k t) LetterN e = absurd cc
 null_is (MapTy k t) m e = absurd cc
 
-bare_is : (t : Ty) (m : Mark) → (is_letter_n m && may_be_null t) ≡ false → opened (shape_of t) m ≡ opened (shape_of (bare t)) m
+bare_is : (t : Ty) (m : Mark) → (is_letter_n m && may_be_null t) ≡ false → opened (form_of t) m ≡ opened (form_of (bare t)) m
 bare_is (Nullable t) LetterN e = absurd cc
 bare_is (Nullable t) m e = bare_is t m refl
 bare_is (Whole n) m e = refl
@@ -44,12 +44,12 @@ bare_is (Arr t) m e = refl
 bare_is (MapTy k t) m e = refl
 
 pub null_opened : (s new : List Goal) (goes : Bool) (t : Ty) (m : Mark) → is_letter_n m ≡ true → may_be_null t ≡ true → goes ≡ true → stack_of new ≡ letter_u ∷ letter_l ∷ letter_l ∷ stack_of s
-    → before (stack_of s) (opened (shape_of t) m) ≡ goes_to goes new
+    → before (stack_of s) (opened (form_of t) m) ≡ goes_to goes new
 null_opened s new goes t m n l g pushed =
     ap (before (stack_of s)) (null_is t m (rw (n, l) refl)) ∙ ap Some (sym pushed) ∙ ap (λ g. goes_to g new) (sym g)
 
-pub bare_opened : {E : Type 0} (s new : List Goal) (r : Result Bool E) (t : Ty) (shape : Shape) (m : Mark) → (is_letter_n m && may_be_null t) ≡ false → shape ≡ shape_of (bare t)
-    → IfOk r (λ goes. before (stack_of s) (opened shape m) ≡ goes_to goes new) → IfOk r (λ goes. before (stack_of s) (opened (shape_of t) m) ≡ goes_to goes new)
+pub bare_opened : {E : Type 0} (s new : List Goal) (r : Result Bool E) (t : Ty) (shape : FieldForm) (m : Mark) → (is_letter_n m && may_be_null t) ≡ false → shape ≡ form_of (bare t)
+    → IfOk r (λ goes. before (stack_of s) (opened shape m) ≡ goes_to goes new) → IfOk r (λ goes. before (stack_of s) (opened (form_of t) m) ≡ goes_to goes new)
 bare_opened s new (Ok goes) t shape m filled e h =
     ap (before (stack_of s)) (bare_is t m filled ∙ ap (λ u. opened u m) (sym e)) ∙ h
 bare_opened s new (Err fault) t shape m filled e h = tt

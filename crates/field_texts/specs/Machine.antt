@@ -3,7 +3,7 @@ use Rattle.std.specs.Prelude.{ℕ, List, [], ◌∷◌, ◌++◌, Option, Some, 
 use Rattle.first_fault.specs.Machine.{run}
 use Rattle.field_texts.specs.declared.mark.Mark.{Mark}
 use Rattle.field_texts.specs.declared.mark.Mark.TheVariants.{Space, Plus, Minus, Digit, Quote, Backslash, Comma, Colon, OpenBracket, CloseBracket, OpenBrace, CloseBrace, LetterX, HexLetter, LetterN, LetterU, LetterL, Other}
-use Rattle.field_texts.specs.Syntax.{Shape, number, string, nullable, array, map_of}
+use Rattle.field_texts.specs.Syntax.{FieldForm, number, string, nullable, array, map_of}
 
 -- What a byte means.
 abbrev pub mark_of : ℕ → Mark
@@ -14,11 +14,11 @@ mark_of b = if b == 32 then Space else (if b == 43 then Plus else (if b == 45 th
 
 -- what is still to come
 pub data Goal : Type 0 where
-  value : Shape → Goal
-  first : Shape → Goal
-  more : Shape → Goal
-  first_pair : Shape → Shape → Goal
-  more_pair : Shape → Shape → Goal
+  value : FieldForm → Goal
+  first : FieldForm → Goal
+  more : FieldForm → Goal
+  first_pair : FieldForm → FieldForm → Goal
+  more_pair : FieldForm → FieldForm → Goal
   between : Goal
   digits : Goal
   more_digits : Goal
@@ -29,7 +29,7 @@ pub data Goal : Type 0 where
   letter_l : Goal
 
 -- the first byte of a value
-abbrev pub opened : Shape → Mark → Option (List Goal)
+abbrev pub opened : FieldForm → Mark → Option (List Goal)
 opened number Plus = Some (digits ∷ [])
 opened number Minus = Some (digits ∷ [])
 opened number Digit = Some (more_digits ∷ [])
@@ -85,5 +85,5 @@ done (more_digits ∷ s) = done s
 done (g ∷ s) = None
 
 -- whether the text is one of the type's, or its first fault
-abbrev pub judge : Shape → List ℕ → Result (Unit {0}) ℕ
+abbrev pub judge : FieldForm → List ℕ → Result (Unit {0}) ℕ
 judge ty bytes = run step done (value ty ∷ []) bytes

@@ -1,27 +1,27 @@
 -- How the texts of numbers, strings, arrays and maps look (manual: "TabSeparated"; spaces between tokens, and what a
 -- text in quotes may hold, are this project's own choice). Spaces may stand before and behind each token.
-use Rattle.std.specs.Prelude.{◌≡◌, ℕ, suc, zero, ◌≤◌, List, [], ◌∷◌, codes, ◌⊎◌}
+use Rattle.std.specs.Prelude.{◌≡◌, ℕ, suc, zero, ◌≤◌, List, [], ◌∷◌, codes, true, ◌⊎◌}
 use Rattle.agg_terms.specs.Chains.{Ty, Whole, Signed, Str, Arr, MapTy, Nullable, StateOf}
 use Rattle.first_fault.specs.Grammar.{Then}
-use Rattle.tsv_text.specs.Escapes.{Piece, plain, letter, hexed, pieces_then}
+use Rattle.tsv_text.specs.Escapes.{Piece, plain, letter, hexed, pieces_then, is_hex_digit}
 
 -- A type, as far as its texts go: numbers of any width are alike, and so are strings and states.
-pub data Shape : Type 0 where
-  number : Shape
-  string : Shape
-  nullable : Shape → Shape
-  array : Shape → Shape
-  map_of : Shape → Shape → Shape
+pub data FieldForm : Type 0 where
+  number : FieldForm
+  string : FieldForm
+  nullable : FieldForm → FieldForm
+  array : FieldForm → FieldForm
+  map_of : FieldForm → FieldForm → FieldForm
 
 -- How the texts of a type look.
-abbrev pub shape_of : Ty → Shape
-shape_of (Whole n) = number
-shape_of (Signed w) = number
-shape_of Str = string
-shape_of (StateOf c ts) = string
-shape_of (Nullable t) = nullable (shape_of t)
-shape_of (Arr t) = array (shape_of t)
-shape_of (MapTy k t) = map_of (shape_of k) (shape_of t)
+abbrev pub form_of : Ty → FieldForm
+form_of (Whole n) = number
+form_of (Signed w) = number
+form_of Str = string
+form_of (StateOf c ts) = string
+form_of (Nullable t) = nullable (form_of t)
+form_of (Arr t) = array (form_of t)
+form_of (MapTy k t) = map_of (form_of k) (form_of t)
 
 abbrev pub IsSpaces : List ℕ → Type 0
 IsSpaces [] = Unit {0}
@@ -48,15 +48,11 @@ abbrev pub IsNumber : List ℕ → Type 0
 IsNumber [] = ⊥
 IsNumber (b ∷ text) = (IsDigit b × AreDigits text) ⊎ (((b ≡ 43) ⊎ (b ≡ 45)) × IsDigits text)
 
--- A hexadecimal digit of either case.
-abbrev pub IsHex : ℕ → Type 0
-IsHex b = IsDigit b ⊎ (((97 ≤ b) × (b ≤ 102)) ⊎ ((65 ≤ b) × (b ≤ 70)))
-
 -- What may stand in quotes: the pieces of a field, but that a quote doesn't stand for itself.
 abbrev pub FitsInQuotes : Piece → Type 0
 FitsInQuotes (plain b) = (b ≡ 39 → ⊥) × (b ≡ 92 → ⊥)
 FitsInQuotes (letter c) = c ≡ 120 → ⊥
-FitsInQuotes (hexed high low) = IsHex high × IsHex low
+FitsInQuotes (hexed high low) = (is_hex_digit high ≡ true) × (is_hex_digit low ≡ true)
 
 abbrev pub AllFitInQuotes : List Piece → Type 0
 AllFitInQuotes [] = Unit {0}
@@ -88,7 +84,7 @@ Opened L close t = Token close t ⊎ Then L (Closing L close) t
 
 -- The texts of a shape: a number; a text in quotes; `NULL` where it may be; `[`, elements divided by `,`, `]`; `{`, entries
 -- `key:value` divided by `,`, `}`.
-abbrev pub SyntaxOf : Shape → List ℕ → Type 0
+abbrev pub SyntaxOf : FieldForm → List ℕ → Type 0
 SyntaxOf number t = Then IsSpaces IsNumber t
 SyntaxOf string t = Then IsSpaces IsQuoted t
 SyntaxOf (nullable s) t = SyntaxOf s t ⊎ Then IsSpaces (λ t. t ≡ codes "NULL") t
@@ -96,5 +92,5 @@ SyntaxOf (array s) t = Then (Token 91) (Opened (SyntaxOf s) 93) t
 SyntaxOf (map_of key s) t = Then (Token 123) (Opened (Then (SyntaxOf key) (Then (Token 58) (SyntaxOf s))) 125) t
 
 -- A whole field, with spaces behind it.
-abbrev pub IsField : Shape → List ℕ → Unit {0} → Type 0
+abbrev pub IsField : FieldForm → List ℕ → Unit {0} → Type 0
 IsField s t _ = Then (SyntaxOf s) IsSpaces t

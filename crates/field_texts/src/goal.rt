@@ -2,7 +2,7 @@
 ghost use Rattle.std.specs.Prelude.{◌≡◌, IfOk, OnOk, true, ◌∷◌};
 ghost use Rattle.agg_terms.specs.Types.{bare};
 ghost use Rattle.value_types.specs.Folds.{ty_of};
-ghost use Rattle.field_texts.specs.Syntax.{shape_of, number};
+ghost use Rattle.field_texts.specs.Syntax.{form_of, number};
 ghost use Rattle.field_texts.specs.proving.Goals.{goal_seen, is_letter_n, look_shape, stack_of, goes_to};
 ghost use Rattle.field_texts.specs.Machine as machine;
 
@@ -48,7 +48,7 @@ pub(crate) enum Look<'t> {
 
 #[tactic(auto, using(value_types::proofs::FoldLaws::ty_laws))]
 fn look_of(ty: &Ty) -> Look<'_>
-    ensures { look_shape result ≡ shape_of (bare (ty_of ty.now)) }
+    ensures { look_shape result ≡ form_of (bare (ty_of ty.now)) }
 {
     match ty {
         Ty::U8 | Ty::U16 | Ty::U32 | Ty::U64 => Look::Number,
@@ -117,7 +117,7 @@ pub(crate) fn open<'t>(
     ty: &'t Ty,
     mark: Mark,
 ) -> Result<bool, OutOfMemory>
-    ensures { IfOk result (λ goes. machine.before (stack_of goals.old.items) (machine.opened (shape_of (ty_of ty.now)) mark) ≡ goes_to goes goals.new.items) }
+    ensures { IfOk result (λ goes. machine.before (stack_of goals.old.items) (machine.opened (form_of (ty_of ty.now)) mark) ≡ goes_to goes goals.new.items) }
 {
     if is_letter_n(mark) && is_nullable(ty) {
         push_null(goals)

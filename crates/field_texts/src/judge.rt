@@ -2,7 +2,7 @@
 ghost use Rattle.std.specs.Prelude.{◌≡◌, ℕ, List, IfOk, if◌then◌else◌, Some, None};
 ghost use Rattle.first_fault.specs.FirstFault.{IsReading};
 ghost use Rattle.value_types.specs.Folds.{ty_of};
-ghost use Rattle.field_texts.specs.Syntax.{Shape, IsField, shape_of};
+ghost use Rattle.field_texts.specs.Syntax.{FieldForm, IsField, form_of};
 ghost use Rattle.field_texts.specs.proving.Goals.{stack_of};
 ghost use Rattle.field_texts.specs.Faults.{IsFieldFault};
 ghost use Rattle.field_texts.specs.Machine as machine;
@@ -33,7 +33,7 @@ fn may_end(goals: &mut Vec<Goal<'_>>) -> bool
 ///
 /// [`OutOfMemory`] where there is no room for what is still to come.
 pub fn syntax_fault(alloc: Global, ty: &Ty, field: &[u8]) -> Result<Option<u64>, OutOfMemory>
-    ensures { IfOk result (IsFieldFault (shape_of (ty_of ty.now)) field.now) }
+    ensures { IfOk result (IsFieldFault (form_of (ty_of ty.now)) field.now) }
 {
     let mut goals = Vec::new(alloc);
     goals.push(Goal::Value(ty))?;
@@ -55,5 +55,5 @@ pub fn syntax_fault(alloc: Global, ty: &Ty, field: &[u8]) -> Result<Option<u64>,
 
 /// The judge of shapes accepts exactly the texts of a shape, and gives the length of the longest front that begins one.
 pub fn law_fields()
-    ensures { (shape : Shape) (text : List ℕ) → IsReading (IsField shape) text (machine.judge shape text) }
+    ensures { (shape : FieldForm) (text : List ℕ) → IsReading (IsField shape) text (machine.judge shape text) }
 {}

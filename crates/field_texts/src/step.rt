@@ -1,7 +1,7 @@
 //! One byte at the goals that are left. Each call answers whether the text may go on so.
 ghost use Rattle.std.specs.Prelude.{◌≡◌, IfOk, OnOk, true, ◌∷◌};
 ghost use Rattle.value_types.specs.Folds.{ty_of};
-ghost use Rattle.field_texts.specs.Syntax.{shape_of};
+ghost use Rattle.field_texts.specs.Syntax.{form_of};
 ghost use Rattle.field_texts.specs.proving.Goals.{stack_of, goes_to};
 ghost use Rattle.field_texts.specs.Machine as machine;
 
@@ -11,7 +11,7 @@ use value_lists::OutOfMemory;
 use value_types::Ty;
 
 fn step_value<'t>(goals: &mut Vec<Goal<'t>>, ty: &'t Ty, mark: Mark) -> Result<bool, OutOfMemory>
-    ensures { IfOk result (λ goes. machine.step_on (machine.value (shape_of (ty_of ty.now)) ∷ stack_of goals.old.items) mark ≡ goes_to goes goals.new.items) }
+    ensures { IfOk result (λ goes. machine.step_on (machine.value (form_of (ty_of ty.now)) ∷ stack_of goals.old.items) mark ≡ goes_to goes goals.new.items) }
 {
     match mark {
         Mark::Space => push(goals, Goal::Value(ty)),
@@ -20,7 +20,7 @@ fn step_value<'t>(goals: &mut Vec<Goal<'t>>, ty: &'t Ty, mark: Mark) -> Result<b
 }
 
 fn step_first<'t>(goals: &mut Vec<Goal<'t>>, ty: &'t Ty, mark: Mark) -> Result<bool, OutOfMemory>
-    ensures { IfOk result (λ goes. machine.step_on (machine.first (shape_of (ty_of ty.now)) ∷ stack_of goals.old.items) mark ≡ goes_to goes goals.new.items) }
+    ensures { IfOk result (λ goes. machine.step_on (machine.first (form_of (ty_of ty.now)) ∷ stack_of goals.old.items) mark ≡ goes_to goes goals.new.items) }
 {
     match mark {
         Mark::Space => push(goals, Goal::First(ty)),
@@ -33,7 +33,7 @@ fn step_first<'t>(goals: &mut Vec<Goal<'t>>, ty: &'t Ty, mark: Mark) -> Result<b
 }
 
 fn step_more<'t>(goals: &mut Vec<Goal<'t>>, ty: &'t Ty, mark: Mark) -> Result<bool, OutOfMemory>
-    ensures { IfOk result (λ goes. machine.step_on (machine.more (shape_of (ty_of ty.now)) ∷ stack_of goals.old.items) mark ≡ goes_to goes goals.new.items) }
+    ensures { IfOk result (λ goes. machine.step_on (machine.more (form_of (ty_of ty.now)) ∷ stack_of goals.old.items) mark ≡ goes_to goes goals.new.items) }
 {
     match mark {
         Mark::Space => push(goals, Goal::More(ty)),
@@ -49,7 +49,7 @@ fn step_more<'t>(goals: &mut Vec<Goal<'t>>, ty: &'t Ty, mark: Mark) -> Result<bo
 /// What is to come behind the key of an entry.
 fn push_entry<'t>(goals: &mut Vec<Goal<'t>>, key: &'t Ty, ty: &'t Ty) -> Result<bool, OutOfMemory>
     ensures goes { IfOk result (λ goes. goes ≡ true) }
-    ensures pushed { OnOk result (stack_of goals.new.items ≡ machine.between ∷ machine.value (shape_of (ty_of ty.now)) ∷ machine.more_pair (shape_of (ty_of key.now)) (shape_of (ty_of ty.now)) ∷ stack_of goals.old.items) }
+    ensures pushed { OnOk result (stack_of goals.new.items ≡ machine.between ∷ machine.value (form_of (ty_of ty.now)) ∷ machine.more_pair (form_of (ty_of key.now)) (form_of (ty_of ty.now)) ∷ stack_of goals.old.items) }
 {
     push(goals, Goal::MorePair(key, ty))?;
     push(goals, Goal::Value(ty))?;
@@ -62,7 +62,7 @@ fn step_first_pair<'t>(
     ty: &'t Ty,
     mark: Mark,
 ) -> Result<bool, OutOfMemory>
-    ensures { IfOk result (λ goes. machine.step_on (machine.first_pair (shape_of (ty_of key.now)) (shape_of (ty_of ty.now)) ∷ stack_of goals.old.items) mark ≡ goes_to goes goals.new.items) }
+    ensures { IfOk result (λ goes. machine.step_on (machine.first_pair (form_of (ty_of key.now)) (form_of (ty_of ty.now)) ∷ stack_of goals.old.items) mark ≡ goes_to goes goals.new.items) }
 {
     match mark {
         Mark::Space => push(goals, Goal::FirstPair(key, ty)),
@@ -80,7 +80,7 @@ fn step_more_pair<'t>(
     ty: &'t Ty,
     mark: Mark,
 ) -> Result<bool, OutOfMemory>
-    ensures { IfOk result (λ goes. machine.step_on (machine.more_pair (shape_of (ty_of key.now)) (shape_of (ty_of ty.now)) ∷ stack_of goals.old.items) mark ≡ goes_to goes goals.new.items) }
+    ensures { IfOk result (λ goes. machine.step_on (machine.more_pair (form_of (ty_of key.now)) (form_of (ty_of ty.now)) ∷ stack_of goals.old.items) mark ≡ goes_to goes goals.new.items) }
 {
     match mark {
         Mark::Space => push(goals, Goal::MorePair(key, ty)),

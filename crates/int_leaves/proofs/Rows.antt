@@ -4,10 +4,10 @@ use Rattle.int_leaves.specs.declared.number.Number.{Number}
 use Rattle.int_leaves.specs.declared.number.Number.TheVariants as numbers
 use Rattle.int_leaves.specs.declared.function.Function.{Function}
 use Rattle.int_leaves.specs.declared.function.Function.TheVariants as function
-use Rattle.agg_terms.specs.Values.{Value, Num}
+use Rattle.agg_terms.specs.Values.{Value, Num, is_null}
 use Rattle.agg_terms.specs.Chains.{Leaf, Count, Sum, Min, Max, GroupBit, Retention, ArgMin, ArgMax, GroupArray, UniqExact, QuantileExact, WindowFunnel, SequenceMatch, And, Ty, Whole, Signed, Str, Arr, MapTy, Nullable, StateOf}
 use Rattle.agg_meaning.specs.Functions.{arg, number, bits_in, from_bits_in, residue}
-use Rattle.agg_meaning.specs.Feeds.{no_null, is_null, AreValues, IsLeafFeed}
+use Rattle.agg_meaning.specs.Feeds.{no_null, AreValues, IsLeafFeed}
 use Rattle.agg_terms.specs.Types.{bare, any_null, first_type}
 use Rattle.agg_meaning.specs.Results.{nullable_if, leaf_result}
 use Rattle.agg_meaning.specs.Lawful.{IsNumber, TakesTypes}

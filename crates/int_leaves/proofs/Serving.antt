@@ -1,11 +1,11 @@
 -- What the test of functions and types brings.
 use Rattle.std.proofs.Common.{◌≡◌, ◌≤◌, true, List, [], ◌∷◌, length, refl, true≢false, sym, arith}
 use Rattle.agg_terms.specs.Chains.{Arr, Count, GroupBit, Leaf, MapTy, Max, Min, Nullable, Retention, Signed, StateOf, Str, Sum, Ty, Whole}
-use Rattle.agg_terms.specs.Types.{bare}
+use Rattle.agg_terms.specs.Types.{bare, is_number_type, is_one_number}
 use Rattle.agg_meaning.specs.Lawful.{IsNumber}
-use Rattle.int_leaves.specs.Served.{IsServed, is_number, is_one_number, is_served}
+use Rattle.int_leaves.specs.Served.{IsServed, is_served}
 
-number_is : (t : Ty) → is_number t ≡ true → IsNumber t
+number_is : (t : Ty) → is_number_type t ≡ true → IsNumber t
 number_is (Whole n) e = tt
 number_is (Signed w) e = tt
 number_is Str e = absurd (true≢false (sym e))

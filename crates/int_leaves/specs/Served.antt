@@ -1,19 +1,8 @@
 -- The functions and argument types that a state of one word serves.
 use Rattle.std.specs.Prelude.{◌≡◌, ◌≤◌, nat_le, Bool, true, false, List, [], ◌∷◌, length}
 use Rattle.agg_terms.specs.Chains.{Count, GroupBit, Leaf, Max, Min, Retention, Signed, Sum, Ty, Whole}
-use Rattle.agg_terms.specs.Types.{bare}
+use Rattle.agg_terms.specs.Types.{bare, is_one_number}
 use Rattle.agg_meaning.specs.Lawful.{IsNumber}
-
--- a type of numbers
-abbrev pub is_number : Ty → Bool
-is_number (Whole n) = true
-is_number (Signed w) = true
-is_number _ = false
-
--- one argument, a number or a Nullable one
-abbrev pub is_one_number : List Ty → Bool
-is_one_number (t ∷ []) = is_number (bare t)
-is_one_number _ = false
 
 -- The functions and argument types that are served: count and retention over at most 32 arguments,
 -- sum, min, max and the three groupBit functions over one number.

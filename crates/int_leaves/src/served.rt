@@ -1,7 +1,8 @@
 //! Which functions and argument types have these states.
 ghost use Rattle.std.specs.Prelude.{◌≡◌, map};
 ghost use Rattle.value_types.specs.Folds.{leaf_of, ty_of};
-ghost use Rattle.int_leaves.specs.Served.{is_number as is_number_type, is_one_number as are_one_number, is_served};
+ghost use Rattle.agg_terms.specs.Types.{is_number_type, is_one_number as are_one_number};
+ghost use Rattle.int_leaves.specs.Served.{is_served};
 
 use value_types::{Leaf, Ty, bare};
 

@@ -7,12 +7,11 @@ use Rattle.std.proofs.lemmas.List.{take_at, drop_at}
 use Rattle.agg_terms.specs.Chains as terms
 use Rattle.agg_terms.specs.Lists.{Each}
 use Rattle.agg_terms.specs.Trees.{IsValue}
-use Rattle.agg_terms.specs.Values.{Value, Num, Bytes, Nil, Items, Pairs, Cell}
+use Rattle.agg_terms.specs.Values.{Value, Num, Bytes, Nil, Items, Pairs, Cell, is_null}
 use Rattle.agg_meaning.specs.Feeds.{AreValues}
 use Rattle.value_types.specs.Folds.{value_of}
 use Rattle.value_types.specs.declared.value.Value.TheVariants as value
 use Rattle.value_types.proofs.FoldLaws.{value_of-Bytes}
-use Rattle.value_types.specs.Words.{is_null}
 use Rattle.key_methods.specs.Figures.{worth}
 use Rattle.key_methods.specs.proving.Fronts.{flag_front, number_at, number_front, text_front, value_front, values_front}
 use Rattle.key_methods.specs.KeyBytes.{AreShort, IsShort, flagged, text_bytes, value_bytes, values_bytes}

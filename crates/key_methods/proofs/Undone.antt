@@ -9,10 +9,9 @@ use Rattle.std.proofs.lemmas.Bool.{and_parts}
 use Rattle.agg_terms.specs.Chains as terms
 use Rattle.agg_terms.specs.Lists.{Each}
 use Rattle.agg_terms.specs.Trees.{IsValue}
-use Rattle.agg_terms.specs.Values.{Value, Bytes}
+use Rattle.agg_terms.specs.Values.{Value, Bytes, is_null}
 use Rattle.agg_meaning.specs.Feeds.{AreValues}
 use Rattle.value_types.specs.Folds.{ty_of}
-use Rattle.value_types.specs.Words.{is_null}
 use Rattle.value_types.specs.declared.ty.Ty.{Ty}
 use Rattle.key_methods.specs.declared.kind.KeyKind.{KeyKind}
 use Rattle.key_methods.specs.declared.kind.KeyKind.TheVariants.{NoKey, Key8, Key16, Key32, Key64, KeyString, Packed128, Serialized}

@@ -5,8 +5,7 @@ use Rattle.std.specs.Prelude.{ℕ, ℤ, pos, negsuc, FitsSigned, ◌/◌, ◌<�
 use Rattle.std.specs.Int.{byte_len, bytes_high_first, cast_unsigned}
 use Rattle.agg_terms.specs.Chains.{Nullable, Signed, Str, Ty, Whole}
 use Rattle.agg_terms.specs.Lists.{Each}
-use Rattle.agg_terms.specs.Values.{Bytes, Num, Value}
-use Rattle.value_types.specs.Words.{is_null}
+use Rattle.agg_terms.specs.Values.{Bytes, Num, Value, is_null}
 use Rattle.key_methods.specs.declared.kind.KeyKind.{KeyKind}
 use Rattle.key_methods.specs.declared.kind.KeyKind.TheVariants.{KeyString}
 

@@ -2,13 +2,13 @@
 use Rattle.std.proofs.Common.{◌≡◌, List, [], ◌∷◌, Option, Some, None, refl, sym, ap, subst, ◌∙◌, arith}
 use Rattle.agg_typing.specs.Literals.{Literal, Int, Decimal, Text}
 use Rattle.line_tokens.specs.Tokens.{Token, integer, decimal, quoted}
-use Rattle.type_names.specs.TypeTexts.{Shape as TypeText, Shapes as TypeTexts, plain, array, map_of, nullable, state, none, and_one}
+use Rattle.type_names.specs.TypeTexts.{WrittenType as TypeText, WrittenTypes as TypeTexts, plain, array, map_of, nullable, state, none, and_one}
 use Rattle.type_shapes.specs.Literals.{IsLiteral, AreRead}
 use Rattle.type_shapes.specs.Shapes.{Shape, Shapes, Arr, MapOf, Nullable, State, no_shapes, a_shape, Spells, AllSpell}
 use Rattle.type_shapes.proofs.OneText.{HasOneAnswer, one_text}
-use Rattle.line_forms.specs.Letters.{Each, letters_of}
+use Rattle.line_forms.specs.Letters.{EachPair, letters_of}
 use Rattle.line_forms.specs.Tables.{ColumnText, Column, IsShapeOf, IsColumnOf}
-use Rattle.line_forms.specs.Selects.{Params, no_params, params, CallText, Call, AreParams, IsCallOf, SelectText, Select, IsSelectOf}
+use Rattle.line_forms.specs.Selects.{Params, no_params, params, CallText, SelectCall, AreParams, IsCallOf, SelectText, Select, IsSelectOf}
 use Rattle.line_forms.specs.ScriptLines.{LineText, view, session, insert, load, read, states, Line, View, Session, Insert, Load, Read, States, IsLineOf}
 use Rattle.line_forms.specs.Laws.{OneTable, OneSelect, OneLine}
 use Rattle.line_forms.proofs.OneText.{one_table, one_select, one_line}
@@ -70,7 +70,7 @@ one_depth law ty (Some s) (Some r) h k = ap Some (one_shape law ty s r h.0 k.0)
 
 -- ---- what the texts of a line stand for
 
-one_each : {T V : Type 0} (pair : T → V → Type 0) → ((t : T) (v w : V) → pair t v → pair t w → v ≡ w) → (ts : List T) (vs ws : List V) → Each pair ts vs → Each pair ts ws → vs ≡ ws
+one_each : {T V : Type 0} (pair : T → V → Type 0) → ((t : T) (v w : V) → pair t v → pair t w → v ≡ w) → (ts : List T) (vs ws : List V) → EachPair pair ts vs → EachPair pair ts ws → vs ≡ ws
 one_each pair one [] [] [] h k = refl
 one_each pair one [] [] (w ∷ ws) h k = absurd k
 one_each pair one [] (v ∷ vs) ws h k = absurd h
@@ -87,11 +87,11 @@ one_params : HasOneAnswer → (ps : Params) (ls ms : List Literal) → AreParams
 one_params law no_params ls ms h k = h ∙ sym k
 one_params law (params ts) ls ms h k = one_literals law ts ls ms h k
 
-one_call : HasOneAnswer → (t : CallText) (a b : Call) → IsCallOf t a → IsCallOf t b → a ≡ b
+one_call : HasOneAnswer → (t : CallText) (a b : SelectCall) → IsCallOf t a → IsCallOf t b → a ≡ b
 one_call law t a b h k =
-    ap (λ x. (let c : Call = record { name = x; params = a.params; arguments = a.arguments } in c)) (h.0 ∙ sym k.0)
-    ∙ ap (λ x. (let c : Call = record { name = b.name; params = x; arguments = a.arguments } in c)) (one_params law t.parameters a.params b.params h.1 k.1)
-    ∙ ap (λ x. (let c : Call = record { name = b.name; params = b.params; arguments = x } in c)) (h.2 ∙ sym k.2)
+    ap (λ x. (let c : SelectCall = record { name = x; params = a.params; arguments = a.arguments } in c)) (h.0 ∙ sym k.0)
+    ∙ ap (λ x. (let c : SelectCall = record { name = b.name; params = x; arguments = a.arguments } in c)) (one_params law t.parameters a.params b.params h.1 k.1)
+    ∙ ap (λ x. (let c : SelectCall = record { name = b.name; params = b.params; arguments = x } in c)) (h.2 ∙ sym k.2)
 
 one_request : HasOneAnswer → (t : SelectText) (a b : Select) → IsSelectOf t a → IsSelectOf t b → a ≡ b
 one_request law t a b h k =
@@ -123,7 +123,7 @@ one_written law (states name) a b h k = absurd h
 pub tables : HasOneAnswer → OneTable
 tables law line a b h k =
     let same = one_table (letters_of line) k.0 h.0 k.1 h.1 in
-    one_each IsColumnOf (one_column law) h.0 a b h.2 (subst (λ x. Each IsColumnOf x b) same k.2)
+    one_each IsColumnOf (one_column law) h.0 a b h.2 (subst (λ x. EachPair IsColumnOf x b) same k.2)
 
 pub requests : HasOneAnswer → OneSelect
 requests law line a b h k =

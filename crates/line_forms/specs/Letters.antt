@@ -68,7 +68,7 @@ Every fact [] = Unit {0}
 Every fact (t ∷ ts) = fact t × Every fact ts
 
 -- The lists have items that go together, one by one.
-abbrev pub Each : {T V : Type 0} → (T → V → Type 0) → List T → List V → Type 0
-Each pair [] [] = Unit {0}
-Each pair (t ∷ ts) (v ∷ vs) = pair t v × Each pair ts vs
-Each pair ts vs = ⊥
+abbrev pub EachPair : {T V : Type 0} → (T → V → Type 0) → List T → List V → Type 0
+EachPair pair [] [] = Unit {0}
+EachPair pair (t ∷ ts) (v ∷ vs) = pair t v × EachPair pair ts vs
+EachPair pair ts vs = ⊥

@@ -4,7 +4,7 @@ use Rattle.agg_typing.specs.Literals.{Literal}
 use Rattle.line_tokens.specs.Tokens.{Token, word}
 use Rattle.type_names.specs.TypeTexts.{AreLiterals}
 use Rattle.type_shapes.specs.Literals.{AreRead}
-use Rattle.line_forms.specs.Letters.{Letter, Sign, sign, Name, name_part, Leads, divided, in_brackets, Every, Each}
+use Rattle.line_forms.specs.Letters.{Letter, Sign, sign, Name, name_part, Leads, divided, in_brackets, Every, EachPair}
 
 -- literals in brackets behind the name of a call, or no brackets
 pub data Params : Type 0 where
@@ -60,13 +60,13 @@ abbrev pub IsSelect : List Letter → SelectText → Type 0
 IsSelect letters q = HasCalls q.calls × Leads (select_signs q) letters []
 
 -- A call: its name, its parameters and the names that it is called on.
-pub record Call : Type 0 where
+pub record SelectCall : Type 0 where
   pub name : List ℕ
   pub params : List Literal
   pub arguments : List Name
 
 pub record Select : Type 0 where
-  pub calls : List Call
+  pub calls : List SelectCall
   pub keys : List Name
 
 -- Empty brackets are as none.
@@ -75,9 +75,9 @@ AreParams no_params literals = literals ≡ []
 AreParams (params tokens) literals = AreRead tokens literals
 
 -- What a call stands for.
-abbrev pub IsCallOf : CallText → Call → Type 0
+abbrev pub IsCallOf : CallText → SelectCall → Type 0
 IsCallOf text call = (call.name ≡ text.name) × AreParams text.parameters call.params × (call.arguments ≡ text.arguments)
 
 -- What the request stands for.
 abbrev pub IsSelectOf : SelectText → Select → Type 0
-IsSelectOf text q = Each IsCallOf text.calls q.calls × (q.keys ≡ text.keys)
+IsSelectOf text q = EachPair IsCallOf text.calls q.calls × (q.keys ≡ text.keys)

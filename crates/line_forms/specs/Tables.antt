@@ -1,9 +1,9 @@
 -- The line of a table: `TABLE` and columns, each a name and a type, divided by commas.
 use Rattle.std.specs.Prelude.{◌≡◌, ◌<◌, ◌≤◌, List, [], ◌∷◌, codes, map, Option, Some, None}
 use Rattle.line_tokens.specs.Tokens.{word}
-use Rattle.type_names.specs.TypeTexts.{Shape as TypeText, tokens_of, ShapeFits}
+use Rattle.type_names.specs.TypeTexts.{WrittenType as TypeText, tokens_of, ShapeFits}
 use Rattle.type_shapes.specs.Shapes.{Shape, Spells, nesting}
-use Rattle.line_forms.specs.Letters.{Letter, Sign, sign, Name, name_sign, Leads, divided, Every, Each}
+use Rattle.line_forms.specs.Letters.{Letter, Sign, sign, Name, name_sign, Leads, divided, Every, EachPair}
 
 -- a column as its tokens spell it
 pub record ColumnText : Type 0 where
@@ -36,4 +36,4 @@ abbrev pub IsColumnOf : ColumnText → Column → Type 0
 IsColumnOf text column = (column.name ≡ text.name) × IsShapeOf text.ty column.shape
 
 abbrev pub AreColumns : List ColumnText → List Column → Type 0
-AreColumns texts columns = Each IsColumnOf texts columns
+AreColumns texts columns = EachPair IsColumnOf texts columns

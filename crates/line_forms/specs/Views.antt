@@ -5,7 +5,7 @@ use Rattle.chain_params.specs.Literals.{literal_of}
 use Rattle.type_shapes.specs.Folds.{shape_of}
 use Rattle.line_forms.specs.Letters.{Name}
 use Rattle.line_forms.specs.Tables.{Column}
-use Rattle.line_forms.specs.Selects.{Call, Select}
+use Rattle.line_forms.specs.Selects.{SelectCall, Select}
 use Rattle.line_forms.specs.ScriptLines.{Line, View, Session, Insert, Load, Read, States}
 use Rattle.line_forms.specs.declared.name.WrittenName.{WrittenName}
 use Rattle.line_forms.specs.declared.table.WrittenColumn.{WrittenColumn}
@@ -24,7 +24,7 @@ column_of c = record { name = name_of c.name; shape = option_map shape_of c.shap
 abbrev pub columns_of : WrittenTable → List Column
 columns_of t = map column_of t.columns
 
-abbrev pub call_of : WrittenCall → Call
+abbrev pub call_of : WrittenCall → SelectCall
 call_of c = record { name = c.name; params = map literal_of c.params; arguments = map name_of c.arguments }
 
 abbrev pub select_of : WrittenSelect → Select

@@ -1,10 +1,10 @@
 -- What the tests of functions and types bring.
 use Rattle.std.proofs.Common.{◌≡◌, zero, suc, true, List, [], ◌∷◌, length, Some, None, refl, true≢false, sym}
 use Rattle.agg_terms.specs.Chains.{Arr, GroupArray, Leaf, MapTy, Nullable, QuantileExact, Signed, StateOf, Str, Ty, Whole}
-use Rattle.agg_terms.specs.Types.{bare, first_type}
-use Rattle.list_leaves.specs.Served.{IsArrayFunction, IsNumberType, IsOne, IsQuantile, is_array_served, is_number, is_one_number, is_one_stateless, is_quantile_served}
+use Rattle.agg_terms.specs.Types.{bare, first_type, is_number_type, is_one_number}
+use Rattle.list_leaves.specs.Served.{IsArrayFunction, IsNumberType, IsOne, IsQuantile, is_array_served, is_one_stateless, is_quantile_served}
 
-number_is : (t : Ty) → is_number t ≡ true → IsNumberType t
+number_is : (t : Ty) → is_number_type t ≡ true → IsNumberType t
 number_is (Whole n) e = tt
 number_is (Signed w) e = tt
 number_is Str e = absurd (true≢false (sym e))

@@ -1,23 +1,13 @@
 -- The functions and argument types that the states of lists serve.
 use Rattle.std.specs.Prelude.{zero, Bool, true, false, List, [], ◌∷◌, Some}
 use Rattle.agg_terms.specs.Chains.{GroupArray, Leaf, QuantileExact, Signed, Ty, Whole}
-use Rattle.agg_terms.specs.Types.{bare}
+use Rattle.agg_terms.specs.Types.{bare, is_one_number}
 use Rattle.agg_typing.specs.Kinds.{holds_no_state}
 
--- a type of numbers
-abbrev pub is_number : Ty → Bool
-is_number (Whole n) = true
-is_number (Signed w) = true
-is_number _ = false
-
--- one argument of a type without a state, and one number, or a Nullable one
+-- one argument of a type without a state
 abbrev pub is_one_stateless : List Ty → Bool
 is_one_stateless (t ∷ []) = holds_no_state t
 is_one_stateless _ = false
-
-abbrev pub is_one_number : List Ty → Bool
-is_one_number (t ∷ []) = is_number (bare t)
-is_one_number _ = false
 
 -- groupArray that keeps one value or more
 abbrev pub is_array_served : Leaf → List Ty → Bool

@@ -2,7 +2,8 @@
 ghost use Rattle.std.specs.Prelude.{◌≡◌, map};
 ghost use Rattle.agg_typing.specs.Kinds as rules;
 ghost use Rattle.value_types.specs.Folds.{leaf_of, ty_of};
-ghost use Rattle.list_leaves.specs.Served.{is_array_served, is_number as is_number_type, is_quantile_served};
+ghost use Rattle.agg_terms.specs.Types.{is_number_type};
+ghost use Rattle.list_leaves.specs.Served.{is_array_served, is_quantile_served};
 
 use value_types::{Leaf, Ty, bare};
 

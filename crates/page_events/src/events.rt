@@ -1,6 +1,6 @@
 //! The columns of page events.
 ghost use Rattle.std.specs.Prelude.{◌≡◌, ◌<◌, ◌^◌, IfOk, length};
-ghost use Rattle.batch_reader.specs.Reading.{types_of};
+ghost use Rattle.batch_reader.specs.Reading.{schema_types};
 ghost use Rattle.row_texts.specs.Rows.{AreReadable};
 ghost use Rattle.tsv_values.specs.Answer.{KeysArePlain};
 ghost use Rattle.value_types.specs.Folds.{ty_of};
@@ -30,7 +30,7 @@ fn type_at(alloc: Global, place: usize) -> Result<Ty, OutOfMemory>
 /// [`OutOfMemory`] where there is no room for them.
 pub fn table(alloc: Global, from: usize) -> Result<Schema, OutOfMemory>
     ensures few { IfOk result (λ schema. length schema.columns < 2 ^ 32) }
-    ensures readable { IfOk result (λ schema. AreReadable (λ _. Unit {0}) (types_of schema)) }
+    ensures readable { IfOk result (λ schema. AreReadable (λ _. Unit {0}) (schema_types schema)) }
 {
     let mut columns = Seq::new(alloc);
     for place in from..8 {

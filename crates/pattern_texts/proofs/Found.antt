@@ -17,7 +17,8 @@ use Rattle.pattern_texts.specs.declared.phase.Phase.{Phase}
 use Rattle.pattern_texts.specs.declared.phase.Phase.TheVariants as phase
 use Rattle.pattern_texts.specs.declared.phase.Mark.{Mark}
 use Rattle.pattern_texts.specs.declared.phase.Mark.TheVariants as mark
-use Rattle.pattern_texts.specs.Texts.{item_text, op_text, gap_text, Join, next, gap, time, link_of, more_text}
+use Rattle.pattern_texts.specs.Texts.{gap_text, Join, next, gap, time, link_of, more_text}
+use Rattle.agg_typing.specs.PatternWords.{op_text, item_text}
 use Rattle.pattern_texts.proofs.Fits.{ItemFits, MoreFits}
 use Rattle.pattern_texts.specs.Machine.{mark_of, State, link_before, has_room, behind_gap, step_at, step_by, step, done_by, done, goes_if, pattern}
 use Rattle.pattern_texts.proofs.Digits.{IsMark, is_mark, decimal_more}

@@ -8,7 +8,8 @@ use Rattle.agg_typing.specs.Legal.{is_pattern}
 use Rattle.agg_typing.specs.Parameters.{most_conditions}
 use Rattle.agg_typing.specs.Promises.{GivesPatterns}
 use Rattle.value_types.specs.declared.pattern.Pattern.{Pattern as Held}
-use Rattle.pattern_texts.specs.Texts.{item_text, gap_text, Written, written_pattern, Spells}
+use Rattle.pattern_texts.specs.Texts.{gap_text, Written, written_pattern, Spells}
+use Rattle.agg_typing.specs.PatternWords.{item_text}
 use Rattle.pattern_texts.specs.declared.fault.PatternFault.{PatternFault}
 use Rattle.pattern_texts.specs.declared.fault.PatternFault.TheVariants.{At, OutOfMemory}
 use Rattle.pattern_texts.specs.Answer.{IsAnswer, Gives, ReadsPatterns}

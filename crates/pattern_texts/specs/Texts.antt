@@ -1,21 +1,8 @@
 -- How patterns are written, and which text spells which pattern (manual: "sequenceMatch", pattern syntax).
 use Rattle.std.specs.Prelude.{◌≡◌, ℕ, suc, zero, List, [], ◌∷◌, ◌++◌, map, codes, true}
-use Rattle.std.specs.Fmt.{decimal}
-use Rattle.agg_terms.specs.Chains.{Op, Below, BelowOrAt, At, AtOrAbove, Above, PatItem, Cond, Any, PatLink, Next, Gap, Time, Pattern}
+use Rattle.agg_terms.specs.Chains.{Op, PatItem, PatLink, Next, Gap, Time, Pattern}
 use Rattle.agg_typing.specs.Legal.{is_pattern}
-
--- an item: `(?N)`, or `.`
-abbrev pub item_text : PatItem → List ℕ
-item_text (Cond n) = codes "(?" ++ (decimal n ++ codes ")")
-item_text Any = codes "."
-
--- a comparison
-abbrev pub op_text : Op → List ℕ
-op_text Below = codes "<"
-op_text BelowOrAt = codes "<="
-op_text At = codes "=="
-op_text AtOrAbove = codes ">="
-op_text Above = codes ">"
+use Rattle.agg_typing.specs.PatternWords.{item_text, bound_text}
 
 -- `.*`, so often
 abbrev pub gap_text : ℕ → List ℕ
@@ -32,7 +19,7 @@ pub data Join : Type 0 where
 abbrev pub join_text : Join → List ℕ
 join_text next = []
 join_text (gap more) = gap_text (suc more)
-join_text (time op n) = codes "(?t" ++ (op_text op ++ (decimal n ++ codes ")"))
+join_text (time op n) = bound_text op n
 
 -- the link that a join stands for
 abbrev pub link_of : Join → PatLink

@@ -15,7 +15,7 @@ use Rattle.value_types.specs.declared.value.Value.TheVariants as value
 use Rattle.value_types.proofs.FoldLaws.{ty_of-Nullable, ty_of-Str, value_of-Bytes, value_of-Nil}
 use Rattle.tsv_text.specs.Escapes.{ArePieces, plain, pieces_bytes, pieces_then}
 use Rattle.field_texts.specs.Syntax.{IsNumber}
-use Rattle.scalar_texts.specs.Answer.{Agrees, is_null, null_answer}
+use Rattle.scalar_texts.specs.Answer.{Agrees, is_null_text, null_answer}
 use Rattle.tsv_values.specs.Answer.{IsFieldAnswer, IsFilledAnswer}
 use Rattle.scalar_texts.specs.Numbers.{number_value}
 use Rattle.scalar_texts.specs.States.{ReadsStates}
@@ -81,15 +81,15 @@ texts_filled old new field (Ok false) h = ap texts_seen h
 texts_filled old new field (Err fault) h = ap texts_seen h
 
 -- NULL, and a value in a column that may hold it
-unnulled : (reads : ReadsStates) (t : terms.Ty) (field : List ℕ) (v : Value) → is_null field ≡ false → IsFilledAnswer reads t field (Ok v) → IsFieldAnswer reads t field (Ok v)
+unnulled : (reads : ReadsStates) (t : terms.Ty) (field : List ℕ) (v : Value) → is_null_text field ≡ false → IsFilledAnswer reads t field (Ok v) → IsFieldAnswer reads t field (Ok v)
 unnulled reads t field v some h = subst (λ b. MatchBool b (Agrees (null_answer t) (Ok v)) (IsFilledAnswer reads t field (Ok v))) (sym some) h
 
-pub filled_field : (old new : TypedValues) (field : List ℕ) (r : Result Bool OutOfMemory) → is_null field ≡ false → TakesFilled old field new r → TakesField old field new r
+pub filled_field : (old new : TypedValues) (field : List ℕ) (r : Result Bool OutOfMemory) → is_null_text field ≡ false → TakesFilled old field new r → TakesField old field new r
 filled_field old new field (Ok true) some h = (h.0, h.1, (λ reads. unnulled reads (ty_of old.ty) field h.0 some (h.2 reads)), h.3)
 filled_field old new field (Ok false) some h = h
 filled_field old new field (Err fault) some h = h
 
-pub null_says : (of : Ty) (field : List ℕ) → is_null field ≡ true → Says (ty.Nullable of) field value.Nil
+pub null_says : (of : Ty) (field : List ℕ) → is_null_text field ≡ true → Says (ty.Nullable of) field value.Nil
 null_says of field null reads =
     let t = ty_of (ty.Nullable of) in
     subst (λ b. MatchBool b (Agrees (null_answer t) (Ok value.Nil)) (IsFilledAnswer reads t field (Ok value.Nil))) (sym null)

@@ -5,7 +5,7 @@ use Rattle.std.proofs.lemmas.Bool.{and_parts}
 use Rattle.std.proofs.lemmas.Bool.Decides.{nat_tests}
 use Rattle.value_lists.specs.declared.out_of_memory.OutOfMemory.{OutOfMemory}
 use Rattle.field_texts.specs.Syntax.{IsNumber}
-use Rattle.scalar_texts.specs.Answer.{is_null}
+use Rattle.scalar_texts.specs.Answer.{is_null_text}
 use Rattle.column_parts.specs.NumberLists.{NumberList}
 use Rattle.typed_columns.specs.TypedValues.{TypedValues}
 use Rattle.quick_rows.specs.declared.field.Front.{Front}
@@ -29,10 +29,10 @@ pub texts_first : (old new : List (List ℕ)) (text : List ℕ) (r : Result Fron
 texts_first old new text r h = first_by TakesText TakesFilled texts_seen old new (λ field s. texts_filled old new field s) text r h
 
 -- neither a number nor a text without a backslash is `\N`
-not_slash : (b c : ℕ) → eqb b 92 ≡ false → is_null (b ∷ c ∷ []) ≡ false
+not_slash : (b c : ℕ) → eqb b 92 ≡ false → is_null_text (b ∷ c ∷ []) ≡ false
 not_slash b c h = rw h refl
 
-number_some : (field : List ℕ) → IsNumber field → is_null field ≡ false
+number_some : (field : List ℕ) → IsNumber field → is_null_text field ≡ false
 number_some [] h = refl
 number_some (b ∷ []) h = refl
 number_some (b ∷ c ∷ []) (inl h) = not_slash b c (grind (arith, nat_tests))
@@ -44,7 +44,7 @@ not_so : (b : Bool) → not b ≡ true → b ≡ false
 not_so true h = cc
 not_so false h = refl
 
-plain_some : (field : List ℕ) → is_plain field ≡ true → is_null field ≡ false
+plain_some : (field : List ℕ) → is_plain field ≡ true → is_null_text field ≡ false
 plain_some [] h = refl
 plain_some (b ∷ []) h = refl
 plain_some (b ∷ c ∷ []) h = not_slash b c (not_so (eqb b 92) (and_parts (not (eqb b 92)) (is_plain (c ∷ [])) h).0)

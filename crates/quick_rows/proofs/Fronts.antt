@@ -10,7 +10,7 @@ use Rattle.std.proofs.lemmas.List.{append-nil}
 use Rattle.std.proofs.lemmas.List.Quantifiers.{position-Some}
 use Rattle.std.proofs.lemmas.List.Splits.{slice_split-cons_no, slice_split-cons_yes}
 use Rattle.tsv_text.specs.Lines.{fields_of, is_tab}
-use Rattle.scalar_texts.specs.Answer.{is_null}
+use Rattle.scalar_texts.specs.Answer.{is_null_text}
 use Rattle.quick_rows.specs.declared.field.Front.TheVariants as front
 use Rattle.quick_rows.specs.Taking.{AreBytes, EndsField, IsFirstField, is_bare, is_plain, is_quotable}
 
@@ -206,7 +206,7 @@ head_is x true parts b c rest e = cc
 head_is x false [] b c rest e = cc
 head_is x false (part ∷ parts) b c rest e = cc
 
-null_field : (text field : List ℕ) (rest : List (List ℕ)) → get_or text 0 0 ≢ 92 → slice_split is_tab text ≡ field ∷ rest → is_null field ≡ false
+null_field : (text field : List ℕ) (rest : List (List ℕ)) → get_or text 0 0 ≢ 92 → slice_split is_tab text ≡ field ∷ rest → is_null_text field ≡ false
 null_field text [] rest other is = refl
 null_field text (b ∷ []) rest other is = refl
 null_field text (b ∷ c ∷ d ∷ field) rest other is = refl
@@ -216,7 +216,7 @@ null_field (x ∷ text) (b ∷ c ∷ []) rest other is =
     let no : eqb b 92 ≡ false = grind (arith, nat_tests) in
     rw no refl
 
-pub some_field : (text field : List ℕ) (behind : Option (Bor (List ℕ))) → get_or text 0 0 ≢ 92 → IsFirstField text field behind → is_null field ≡ false
+pub some_field : (text field : List ℕ) (behind : Option (Bor (List ℕ))) → get_or text 0 0 ≢ 92 → IsFirstField text field behind → is_null_text field ≡ false
 unfolding fields_of
 some_field text field None other h = null_field text field [] other h
 some_field text field (Some behind) other h = null_field text field (slice_split is_tab behind.now) other h.0

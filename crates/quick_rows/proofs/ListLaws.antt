@@ -21,7 +21,7 @@ use Rattle.value_types.proofs.FoldLaws.{ty_of-Arr, ty_of-Str, value_of-Bytes, va
 use Rattle.tsv_text.specs.Lines.{is_tab}
 use Rattle.tsv_text.specs.Escapes.{plain, pieces_bytes, pieces_then}
 use Rattle.field_texts.specs.Syntax.{AllFitInQuotes, Token}
-use Rattle.scalar_texts.specs.Answer.{is_null}
+use Rattle.scalar_texts.specs.Answer.{is_null_text}
 use Rattle.scalar_texts.specs.Numbers.{number_value}
 use Rattle.scalar_texts.specs.States.{ReadsStates}
 use Rattle.scalar_texts.specs.declared.fault.FieldFault.{FieldFault}
@@ -247,10 +247,10 @@ list_filled starts after old new field e cut marked end h =
     )
 
 -- an array isn't `\N`
-array_some : (field inside : List ℕ) → field ≡ 91 ∷ (inside ++ 93 ∷ []) → is_null field ≡ false
-array_some field [] is = ap is_null is
-array_some field (b ∷ []) is = ap is_null is
-array_some field (b ∷ c ∷ inside) is = ap is_null is
+array_some : (field inside : List ℕ) → field ≡ 91 ∷ (inside ++ 93 ∷ []) → is_null_text field ≡ false
+array_some field [] is = ap is_null_text is
+array_some field (b ∷ []) is = ap is_null_text is
+array_some field (b ∷ c ∷ inside) is = ap is_null_text is
 
 pub list_taken : (starts after : List ℕ) (old new : TypedValues) (field : List ℕ) (e : ℕ) → IsCut starts (length old.values) → after ≡ starts ++ e ∷ [] → e ≡ length new.values →
     TakesElements old field new (Ok true) → TakesField (lists_seen starts old) field (lists_seen after new) (Ok true)

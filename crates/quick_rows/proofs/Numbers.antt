@@ -5,7 +5,7 @@ use Rattle.std.specs.Prelude.{int_le, ◌≤ℤ◌, Ok}
 use Rattle.std.specs.Cmp.Derive.{both_true}
 use Rattle.std.specs.Str.Parse.{digits_value}
 use Rattle.agg_terms.specs.Chains as terms
-use Rattle.agg_terms.specs.Fitting.{has_number, within}
+use Rattle.agg_terms.specs.Fitting.{has_number, is_between}
 use Rattle.agg_terms.specs.Values as family
 use Rattle.value_types.specs.Folds.{ty_of}
 use Rattle.value_types.specs.declared.ty.Ty.{Ty}
@@ -49,25 +49,25 @@ int_le-yes (pos a) (negsuc b) h = absurd h.le
 int_le-yes (negsuc a) (pos b) h = refl
 int_le-yes (negsuc a) (negsuc b) h = so (leb b a) h.le
 
-within-yes : (low high z : ℤ) → (low ≤ℤ z) × (z ≤ℤ high) → within low high z ≡ true
+within-yes : (low high z : ℤ) → (low ≤ℤ z) × (z ≤ℤ high) → is_between low high z ≡ true
 within-yes low high z h = both_true (int_le-yes low z h.0) (int_le-yes z high h.1)
 
 pub number_fits : (k : NumberType) (z : ℤ) → IsOf k z → Fits (number_ty k) (value.Num z)
 number_fits k z h =
-    in_bounds k _ ∙ ap (has_number (within (least k) (greatest k))) (value_of-Num z) ∙ within-yes (least k) (greatest k) z h
+    in_bounds k _ ∙ ap (has_number (is_between (least k) (greatest k))) (value_of-Num z) ∙ within-yes (least k) (greatest k) z h
 
 says : (reads : ReadsStates) (field : List ℕ) (z : ℤ) (t : terms.Ty) (u : Ty) → ty_of u ≡ t → IsFilledAnswer reads t field (Ok (value.Num z)) → IsFilledAnswer reads (ty_of u) field (Ok (value.Num z))
 says reads field z t u is h = subst (λ s. IsFilledAnswer reads s field (Ok (value.Num z))) (sym is) h
 
 pub number_says : (k : NumberType) (field : List ℕ) (z : ℤ) → IsNumber field → number_value field ≡ z → IsOf k z → SaysFilled (number_ty k) field (value.Num z)
-number_says number.U8 field z text is h reads = says reads field z _ _ ty_of-U8 (text, ap (within (pos 0) (pos 255)) is ∙ within-yes _ _ z h, value_of-Num z ∙ ap family.Num (sym is))
-number_says number.U16 field z text is h reads = says reads field z _ _ ty_of-U16 (text, ap (within (pos 0) (pos 65535)) is ∙ within-yes _ _ z h, value_of-Num z ∙ ap family.Num (sym is))
-number_says number.U32 field z text is h reads = says reads field z _ _ ty_of-U32 (text, ap (within (pos 0) (pos 4294967295)) is ∙ within-yes _ _ z h, value_of-Num z ∙ ap family.Num (sym is))
-number_says number.U64 field z text is h reads = says reads field z _ _ ty_of-U64 (text, ap (within (pos 0) (pos 18446744073709551615)) is ∙ within-yes _ _ z h, value_of-Num z ∙ ap family.Num (sym is))
-number_says number.I8 field z text is h reads = says reads field z _ _ ty_of-I8 (text, ap (within (negsuc 127) (pos 127)) is ∙ within-yes _ _ z h, value_of-Num z ∙ ap family.Num (sym is))
-number_says number.I16 field z text is h reads = says reads field z _ _ ty_of-I16 (text, ap (within (negsuc 32767) (pos 32767)) is ∙ within-yes _ _ z h, value_of-Num z ∙ ap family.Num (sym is))
-number_says number.I32 field z text is h reads = says reads field z _ _ ty_of-I32 (text, ap (within (negsuc 2147483647) (pos 2147483647)) is ∙ within-yes _ _ z h, value_of-Num z ∙ ap family.Num (sym is))
-number_says number.I64 field z text is h reads = says reads field z _ _ ty_of-I64 (text, ap (within (negsuc 9223372036854775807) (pos 9223372036854775807)) is ∙ within-yes _ _ z h, value_of-Num z ∙ ap family.Num (sym is))
+number_says number.U8 field z text is h reads = says reads field z _ _ ty_of-U8 (text, ap (is_between (pos 0) (pos 255)) is ∙ within-yes _ _ z h, value_of-Num z ∙ ap family.Num (sym is))
+number_says number.U16 field z text is h reads = says reads field z _ _ ty_of-U16 (text, ap (is_between (pos 0) (pos 65535)) is ∙ within-yes _ _ z h, value_of-Num z ∙ ap family.Num (sym is))
+number_says number.U32 field z text is h reads = says reads field z _ _ ty_of-U32 (text, ap (is_between (pos 0) (pos 4294967295)) is ∙ within-yes _ _ z h, value_of-Num z ∙ ap family.Num (sym is))
+number_says number.U64 field z text is h reads = says reads field z _ _ ty_of-U64 (text, ap (is_between (pos 0) (pos 18446744073709551615)) is ∙ within-yes _ _ z h, value_of-Num z ∙ ap family.Num (sym is))
+number_says number.I8 field z text is h reads = says reads field z _ _ ty_of-I8 (text, ap (is_between (negsuc 127) (pos 127)) is ∙ within-yes _ _ z h, value_of-Num z ∙ ap family.Num (sym is))
+number_says number.I16 field z text is h reads = says reads field z _ _ ty_of-I16 (text, ap (is_between (negsuc 32767) (pos 32767)) is ∙ within-yes _ _ z h, value_of-Num z ∙ ap family.Num (sym is))
+number_says number.I32 field z text is h reads = says reads field z _ _ ty_of-I32 (text, ap (is_between (negsuc 2147483647) (pos 2147483647)) is ∙ within-yes _ _ z h, value_of-Num z ∙ ap family.Num (sym is))
+number_says number.I64 field z text is h reads = says reads field z _ _ ty_of-I64 (text, ap (is_between (negsuc 9223372036854775807) (pos 9223372036854775807)) is ∙ within-yes _ _ z h, value_of-Num z ∙ ap family.Num (sym is))
 
 said : (reads : ReadsStates) (part : List ℕ) (z : ℤ) (t : terms.Ty) (u : Ty) → ty_of u ≡ t → ElementSays reads t (Ok (value_of (value.Num z))) part →
     ElementSays reads (ty_of u) (Ok (value_of (value.Num z))) part
@@ -78,11 +78,11 @@ in_range-says z true h = ap Ok (value_of-Num z)
 in_range-says z false h = cc
 
 pub number_element : (k : NumberType) (part : List ℕ) → IsNumber part → IsOf k (number_value part) → SaysElement (number_ty k) part (value.Num (number_value part))
-number_element number.U8 part text h reads = said reads part (number_value part) _ _ ty_of-U8 (text, in_range-says (number_value part) (within (pos 0) (pos 255) (number_value part)) (within-yes _ _ _ h))
-number_element number.U16 part text h reads = said reads part (number_value part) _ _ ty_of-U16 (text, in_range-says (number_value part) (within (pos 0) (pos 65535) (number_value part)) (within-yes _ _ _ h))
-number_element number.U32 part text h reads = said reads part (number_value part) _ _ ty_of-U32 (text, in_range-says (number_value part) (within (pos 0) (pos 4294967295) (number_value part)) (within-yes _ _ _ h))
-number_element number.U64 part text h reads = said reads part (number_value part) _ _ ty_of-U64 (text, in_range-says (number_value part) (within (pos 0) (pos 18446744073709551615) (number_value part)) (within-yes _ _ _ h))
-number_element number.I8 part text h reads = said reads part (number_value part) _ _ ty_of-I8 (text, in_range-says (number_value part) (within (negsuc 127) (pos 127) (number_value part)) (within-yes _ _ _ h))
-number_element number.I16 part text h reads = said reads part (number_value part) _ _ ty_of-I16 (text, in_range-says (number_value part) (within (negsuc 32767) (pos 32767) (number_value part)) (within-yes _ _ _ h))
-number_element number.I32 part text h reads = said reads part (number_value part) _ _ ty_of-I32 (text, in_range-says (number_value part) (within (negsuc 2147483647) (pos 2147483647) (number_value part)) (within-yes _ _ _ h))
-number_element number.I64 part text h reads = said reads part (number_value part) _ _ ty_of-I64 (text, in_range-says (number_value part) (within (negsuc 9223372036854775807) (pos 9223372036854775807) (number_value part)) (within-yes _ _ _ h))
+number_element number.U8 part text h reads = said reads part (number_value part) _ _ ty_of-U8 (text, in_range-says (number_value part) (is_between (pos 0) (pos 255) (number_value part)) (within-yes _ _ _ h))
+number_element number.U16 part text h reads = said reads part (number_value part) _ _ ty_of-U16 (text, in_range-says (number_value part) (is_between (pos 0) (pos 65535) (number_value part)) (within-yes _ _ _ h))
+number_element number.U32 part text h reads = said reads part (number_value part) _ _ ty_of-U32 (text, in_range-says (number_value part) (is_between (pos 0) (pos 4294967295) (number_value part)) (within-yes _ _ _ h))
+number_element number.U64 part text h reads = said reads part (number_value part) _ _ ty_of-U64 (text, in_range-says (number_value part) (is_between (pos 0) (pos 18446744073709551615) (number_value part)) (within-yes _ _ _ h))
+number_element number.I8 part text h reads = said reads part (number_value part) _ _ ty_of-I8 (text, in_range-says (number_value part) (is_between (negsuc 127) (pos 127) (number_value part)) (within-yes _ _ _ h))
+number_element number.I16 part text h reads = said reads part (number_value part) _ _ ty_of-I16 (text, in_range-says (number_value part) (is_between (negsuc 32767) (pos 32767) (number_value part)) (within-yes _ _ _ h))
+number_element number.I32 part text h reads = said reads part (number_value part) _ _ ty_of-I32 (text, in_range-says (number_value part) (is_between (negsuc 2147483647) (pos 2147483647) (number_value part)) (within-yes _ _ _ h))
+number_element number.I64 part text h reads = said reads part (number_value part) _ _ ty_of-I64 (text, in_range-says (number_value part) (is_between (negsuc 9223372036854775807) (pos 9223372036854775807) (number_value part)) (within-yes _ _ _ h))

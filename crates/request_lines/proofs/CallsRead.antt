@@ -8,7 +8,7 @@ use Rattle.type_names.specs.TypeTexts.{AreLiterals}
 use Rattle.type_shapes.specs.Literals.{AreRead}
 use Rattle.type_shapes.specs.declared.mark.Mark.TheVariants.{Opening, Closing}
 use Rattle.value_types.specs.declared.literal.Literal.{Literal}
-use Rattle.line_forms.specs.Letters.{Letter, sign, Name, Leads, divided, in_brackets, Every, Each}
+use Rattle.line_forms.specs.Letters.{Letter, sign, Name, Leads, divided, in_brackets, Every, EachPair}
 use Rattle.line_forms.specs.Selects.{no_params, params, names_signs, literal_part, call_signs, group_signs, IsCallOf}
 use Rattle.line_forms.specs.Views.{name_of, call_of}
 use Rattle.line_forms.specs.declared.name.WrittenName.{WrittenName}
@@ -50,7 +50,7 @@ told_behind goals inner kind other rest mid (Err OutOfMemory) on same seen h = t
 
 -- ---- names and literals
 
-names_of : (t : Name) (ts : List Name) (vs : List WrittenName) → Each IsNameOf (t ∷ ts) vs → map name_of vs ≡ t ∷ ts
+names_of : (t : Name) (ts : List Name) (vs : List WrittenName) → EachPair IsNameOf (t ∷ ts) vs → map name_of vs ≡ t ∷ ts
 names_of t ts [] h = absurd h
 names_of t [] (v ∷ []) h = ap (λ x. x ∷ []) h.0
 names_of t [] (v ∷ w ∷ vs) h = absurd h.1
@@ -87,7 +87,7 @@ are_literals : (ts : List Token) → Every LiteralFits ts → AreLiterals ts
 are_literals [] h = tt
 are_literals (t ∷ ts) h = (h.0, are_literals ts h.1)
 
-are_read : (ts : List Token) (ls : List Literal) → Each IsLiteralOf ts ls → AreRead ts (map literal_of ls)
+are_read : (ts : List Token) (ls : List Literal) → EachPair IsLiteralOf ts ls → AreRead ts (map literal_of ls)
 are_read [] [] h = tt
 are_read [] (l ∷ ls) h = absurd h
 are_read (t ∷ ts) [] h = absurd h

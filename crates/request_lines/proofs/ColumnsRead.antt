@@ -7,7 +7,7 @@ use Rattle.type_names.specs.TypeTexts as texts
 use Rattle.type_names.specs.declared.goal.Goal.TheVariants.{AnyType}
 use Rattle.type_shapes.specs.Shapes.{Shape, Spells, nesting}
 use Rattle.type_shapes.specs.Folds.{shape_of}
-use Rattle.type_shapes.specs.Reading.{IsFound, ReadsType}
+use Rattle.type_shapes.specs.Reading.{HasType, IsFound, ReadsType}
 use Rattle.type_shapes.specs.declared.shape.TypeShape.{TypeShape}
 use Rattle.line_forms.specs.Letters.{Letter, sign, name_part, Leads}
 use Rattle.line_forms.specs.Tables.{IsShapeOf}
@@ -31,9 +31,16 @@ leads_tokens [] a b h = ap tokens_in h
 leads_tokens (t ∷ ts) [] b h = absurd h
 leads_tokens (t ∷ ts) (l ∷ a) b h = ap (λ x. x ∷ tokens_in a) h.0 ∙ ap (λ x. t ∷ x) (leads_tokens ts a b h.2)
 
-shape_found : (ty : texts.Shape) (more : List Token) (seen : Option (Shape × List ℕ)) (shape : Option Shape) → shape ≡ option_map (λ f. f.0) seen → IsFound 16 (nesting ty) (Spells ty) more seen → IsShapeOf ty shape
+shape_found : (ty : texts.WrittenType) (more : List Token) (seen : Option (Shape × List ℕ)) (shape : Option Shape) → shape ≡ option_map (λ f. f.0) seen → IsFound 16 (nesting ty) (Spells ty) more seen → IsShapeOf ty shape
 shape_found ty more None shape e h = subst (IsShapeOf ty) (sym e) h
 shape_found ty more (Some f) shape e h = subst (IsShapeOf ty) (sym e) (h.spelled, h.within)
+
+-- the tokens of a text whose letters lead with a type
+type_tokens : (ty left : Rest) (t : texts.WrittenType) → Leads (map sign (texts.tokens_of t)) (letters_left ty) (letters_left left) → syntax.tokens_in ty.text.now ≡ texts.tokens_of t ++ tokens_in (letters_left left)
+type_tokens ty left t leads = sym (tokens_seen ty.whole (tokens_of ty.text.now)) ∙ leads_tokens (texts.tokens_of t) (letters_left ty) (letters_left left) leads
+
+pub type_in_front : (ty left : Rest) → IsType (letters_left ty) (letters_left left) → HasType ty.text.now
+type_in_front ty left typed = (typed.0, tokens_in (letters_left left), typed.1, type_tokens ty left typed.0 typed.2)
 
 -- a shape that was read, and what stands behind it
 abbrev pub front_seen : Option (TypeShape × Bor (List ℕ)) → Option (Shape × List ℕ)
@@ -44,7 +51,7 @@ pub column_read : (rest ty left : Rest) (name : WrittenName) (shape : Option Typ
     → IsColumn (record { name = name; shape = shape }) (letters_left rest) (letters_left left) × IsFurther rest left × Passes (a_name ∷ in_type AnyType ∷ []) rest left
 column_read rest ty left name shape seen named on passes typed on_type passes_type found same =
     let t = typed.0 in
-    let tokens : syntax.tokens_in ty.text.now ≡ texts.tokens_of t ++ tokens_in (letters_left left) = sym (tokens_seen ty.whole (tokens_of ty.text.now)) ∙ leads_tokens (texts.tokens_of t) (letters_left ty) (letters_left left) typed.2 in (
+    let tokens = type_tokens ty left t typed.2 in (
       (
         record { name = named.0; ty = t },
         typed.1,

@@ -2,7 +2,7 @@
 use Rattle.std.proofs.Common.{◌≡◌, ℕ, List, [], ◌∷◌, ◌++◌, map, Some, refl, sym, ap, subst, ◌∙◌, append_assoc, append-nil, arith}
 use Rattle.line_tokens.specs.Tokens.{Token, comma}
 use Rattle.type_shapes.specs.declared.mark.Mark.TheVariants.{Dividing}
-use Rattle.line_forms.specs.Letters.{Sign, sign, Leads, more_parts, Every, Each}
+use Rattle.line_forms.specs.Letters.{Sign, sign, Leads, more_parts, Every, EachPair}
 use Rattle.line_forms.specs.declared.fault.LineFault.{LineFault}
 use Rattle.line_forms.specs.declared.fault.LineFault.TheVariants.{Syntax, OutOfMemory}
 use Rattle.request_lines.specs.proving.Judging.{Goal, step, done, at_step, stop}
@@ -31,13 +31,13 @@ every-snoc : {T : Type 0} (fact : T → Type 0) (ts : List T) (u : T) → Every 
 every-snoc fact [] u h k = (k, tt)
 every-snoc fact (t ∷ ts) u h k = (h.0, every-snoc fact ts u h.1 k)
 
-each-snoc : {T V : Type 0} (pair : T → V → Type 0) (ts : List T) (u : T) (vs : List V) (v : V) → Each pair ts vs → pair u v → Each pair (ts ++ u ∷ []) (vs ++ v ∷ [])
+each-snoc : {T V : Type 0} (pair : T → V → Type 0) (ts : List T) (u : T) (vs : List V) (v : V) → EachPair pair ts vs → pair u v → EachPair pair (ts ++ u ∷ []) (vs ++ v ∷ [])
 each-snoc pair [] u [] v h k = (k, tt)
 each-snoc pair [] u (w ∷ vs) v h k = absurd h
 each-snoc pair (t ∷ ts) u [] v h k = absurd h
 each-snoc pair (t ∷ ts) u (w ∷ vs) v h k = (h.0, each-snoc pair ts u vs v h.1 k)
 
-pub each-map : {T V W : Type 0} (pair : T → W → Type 0) (f : V → W) (ts : List T) (vs : List V) → Each (λ t v. pair t (f v)) ts vs → Each pair ts (map f vs)
+pub each-map : {T V W : Type 0} (pair : T → W → Type 0) (f : V → W) (ts : List T) (vs : List V) → EachPair (λ t v. pair t (f v)) ts vs → EachPair pair ts (map f vs)
 each-map pair f [] [] h = tt
 each-map pair f [] (v ∷ vs) h = absurd h
 each-map pair f (t ∷ ts) [] h = absurd h

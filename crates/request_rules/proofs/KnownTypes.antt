@@ -6,7 +6,7 @@ use Rattle.agg_terms.specs.Chains.{Ty}
 use Rattle.agg_typing.specs.Legal.{is_legal_type, are_legal_types}
 use Rattle.line_forms.specs.Letters.{Every, Name}
 use Rattle.refusals.specs.declared.why.Why.{Why}
-use Rattle.request_rules.specs.Selects.{Named, all_known, known, known_or, named_from, types_of}
+use Rattle.request_rules.specs.Selects.{Named, all_known, known, known_or, named_from, named_types}
 use Rattle.request_rules.specs.Tables.{AreLegal, Column}
 use Rattle.request_rules.proofs.AllJudged.{all_judged, first, second, same_value}
 
@@ -34,7 +34,7 @@ each_name : (names : List Name) → Every (λ (_ : Name). Unit {0}) names
 each_name [] = tt
 each_name (n ∷ ns) = (tt, each_name ns)
 
-pub known_legal : (columns : List Column) (names : List Name) (all : List Named) → AreLegal columns → all_known columns names ≡ Ok all → are_legal_types (types_of all) ≡ true
+pub known_legal : (columns : List Column) (names : List Name) (all : List Named) → AreLegal columns → all_known columns names ≡ Ok all → are_legal_types (named_types all) ≡ true
 known_legal columns names all h e =
     list_all-map is_legal_type (λ (n : Named). n.ty) all
     ∙ all_judged (λ (_ : List Named). known columns) (λ (n : Named). is_legal_type n.ty) (λ (_ : Name). Unit {0})

@@ -4,3 +4,4 @@ mod InTurn
 mod KnownTypes
 mod Places
 mod Refused
+pub mod PlansFit

@@ -22,8 +22,8 @@ pub record Named : Type 0 where
 abbrev pub places_of : List Named → List ℕ
 places_of columns = map (λ (n : Named). n.place) columns
 
-abbrev pub types_of : List Named → List Ty
-types_of columns = map (λ (n : Named). n.ty) columns
+abbrev pub named_types : List Named → List Ty
+named_types columns = map (λ (n : Named). n.ty) columns
 
 -- the column of a name among columns that begin at a place, if there is one
 abbrev pub named_from : ℕ → List Column → List ℕ → Option Named
@@ -43,13 +43,13 @@ abbrev pub all_known : List Column → List Name → Result (List Named) Why
 all_known columns names = in_turn (λ (_ : List Named). known columns) [] names
 
 -- a call: its chain with its types, and the places of the columns that it is called on
-pub record Call : Type 0 where
-  pub typed : typing.Call
+pub record PlacedCall : Type 0 where
+  pub typed : typing.TypedCall
   pub columns : List ℕ
 
 -- what is asked of the rows of a table: calls, and the places of the columns that are keys
 pub record Plan : Type 0 where
-  pub calls : List Call
+  pub calls : List PlacedCall
   pub keys : List ℕ
 
 -- Limit: a request has at most 64 calls.
@@ -65,22 +65,22 @@ abbrev pub within_limits : written.Select → Result (Unit {0}) Why
 within_limits select = and_then (has_few_calls select) (λ (_ : Unit {0}). has_few_keys select)
 
 -- Chain: the call of this number breaks no rule on chains over the types of its arguments.
-abbrev pub resolved_call : ℕ → written.Call → List Named → Result typing.Call Why
+abbrev pub resolved_call : ℕ → written.SelectCall → List Named → Result typing.TypedCall Why
 resolved_call number call arguments =
-    at_part number (typing.resolved pattern_reader call.name call.params (types_of arguments))
+    at_part number (typing.resolved pattern_reader call.name call.params (named_types arguments))
 
 -- the rules on the call of this number, counted from 1
-abbrev pub call_numbered : ℕ → List Column → written.Call → Result Call Why
+abbrev pub call_numbered : ℕ → List Column → written.SelectCall → Result PlacedCall Why
 call_numbered number columns call =
     and_then (all_known columns call.arguments) (λ (arguments : List Named).
-    and_then (resolved_call number call arguments) (λ (typed : typing.Call).
+    and_then (resolved_call number call arguments) (λ (typed : typing.TypedCall).
     Ok (record { typed = typed; columns = places_of arguments })))
 
 -- the rules on a call that stands to the right of these
-abbrev pub judged_call : List Column → List Call → written.Call → Result Call Why
+abbrev pub judged_call : List Column → List PlacedCall → written.SelectCall → Result PlacedCall Why
 judged_call columns before call = call_numbered (suc (length before)) columns call
 
-abbrev pub judged_calls : List Column → List written.Call → Result (List Call) Why
+abbrev pub judged_calls : List Column → List written.SelectCall → Result (List PlacedCall) Why
 judged_calls columns calls = in_turn (judged_call columns) [] calls
 
 -- Repeated: no key to the left is the same column.
@@ -107,14 +107,14 @@ judged_keys columns keys = in_turn (judged_key columns) [] keys
 abbrev pub judged_select : List Column → written.Select → Result Plan Why
 judged_select columns select =
     and_then (within_limits select) (λ (_ : Unit {0}).
-    and_then (judged_calls columns select.calls) (λ (calls : List Call).
+    and_then (judged_calls columns select.calls) (λ (calls : List PlacedCall).
     and_then (judged_keys columns select.keys) (λ (keys : List ℕ).
     Ok (record { calls = calls; keys = keys }))))
 
 -- a call with fewer than 2^32 parameters and arguments
-abbrev pub IsFewCall : written.Call → Type 0
+abbrev pub IsFewCall : written.SelectCall → Type 0
 IsFewCall call = (length call.params < 2 ^ 32) × (length call.arguments < 2 ^ 32)
 
-abbrev pub AreFewCalls : List written.Call → Type 0
+abbrev pub AreFewCalls : List written.SelectCall → Type 0
 AreFewCalls [] = Unit {0}
 AreFewCalls (c ∷ cs) = IsFewCall c × AreFewCalls cs

@@ -27,7 +27,7 @@ fn resolve_call(
 ) -> Result<Legal, Refusal>
     requires few { rules.IsFewCall (call_of call.now) }
     requires many { length found.now < 2 ^ 32 }
-    requires legal { are_legal_types (rules.types_of (map views.named_of found.now)) ≡ true }
+    requires legal { are_legal_types (rules.named_types (map views.named_of found.now)) ≡ true }
     ensures { Says call_seen result (rules.resolved_call number (call_of call.now) (map views.named_of found.now)) }
 {
     let types = types_of(alloc, found)?;

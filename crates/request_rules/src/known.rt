@@ -98,7 +98,7 @@ pub(crate) fn places_of(alloc: Global, found: &[Named<'_>]) -> Result<Seq<u32>, 
 
 /// Copies of their types.
 pub(crate) fn types_of(alloc: Global, found: &[Named<'_>]) -> Result<Seq<Ty>, OutOfMemory>
-    ensures { IfOk result (λ types. map ty_of types ≡ rules.types_of (map views.named_of found.now)) }
+    ensures { IfOk result (λ types. map ty_of types ≡ rules.named_types (map views.named_of found.now)) }
 {
     let mut types = Seq::new(alloc);
     for column in found {

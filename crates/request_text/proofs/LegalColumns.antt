@@ -15,7 +15,7 @@ use Rattle.request_rules.specs.Turns.{and_then, at_part}
 use Rattle.request_rules.proofs.AllJudged.{all_judged, past, same_value}
 use Rattle.shape_types.proofs.LegalTypes.{IfType, legal}
 use Rattle.shape_types.specs.Types.{type_of_shape}
-use Rattle.type_names.specs.TypeTexts.{Shape as TypeText, ShapeFits}
+use Rattle.type_names.specs.TypeTexts.{WrittenType as TypeText, ShapeFits}
 use Rattle.type_shapes.specs.Shapes.{Shape}
 
 -- a column whose type some text spells

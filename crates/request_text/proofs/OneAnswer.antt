@@ -12,7 +12,7 @@ use Rattle.refusals.specs.declared.why.Why.{Why}
 use Rattle.request_rules.specs.Selects.{Plan, judged_select}
 use Rattle.request_rules.specs.Tables.{Column, judged_table}
 use Rattle.request_rules.specs.Views.{plan_of, schema_of}
-use Rattle.request_text.specs.Laws.{IsSameAnswer, OneAnswer, OneSelect, OneTable}
+use Rattle.request_text.specs.Laws.{IsSameQuery, OneAnswer, OneSelect, OneTable}
 use Rattle.request_text.specs.Lines.{IsJudged, IsSelectJudged, IsTableJudged}
 use Rattle.request_text.specs.Queries.{IsQueryAnswer}
 use Rattle.request_text.specs.declared.query.Query.{Query}
@@ -92,7 +92,7 @@ module _ (tables : OneTable) (selects : OneSelect) (line1 line2 : List ℕ) wher
   same_refusal l m v w (inl h) (inr g) = absurd (table_apart g.1.0 v g.1.1 h.1)
   same_refusal l m v w (inr h) (inl g) = absurd (table_apart h.1.0 w h.1.1 g.1)
 
-  same_answer : (one other : Result Query RequestFault) → IsQueryAnswer line1 line2 one → IsQueryAnswer line1 line2 other → IsSameAnswer one other
+  same_answer : (one other : Result Query RequestFault) → IsQueryAnswer line1 line2 one → IsQueryAnswer line1 line2 other → IsSameQuery one other
   same_answer (Ok a) (Ok b) h g = (
     same_columns (schema_of a.schema) (schema_of b.schema) h.0 g.0,
     same_value (plan_of a.plan) (plan_of b.plan) (same_select (schema_of a.schema) (schema_of b.schema) (Ok (plan_of a.plan)) (Ok (plan_of b.plan)) h.0 g.0 h.1 g.1),

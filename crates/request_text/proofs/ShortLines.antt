@@ -3,15 +3,15 @@ use Rattle.std.proofs.Common.{◌≡◌, sym, ap, ℕ, suc, ◌≤◌, ◌<◌, 
 use Rattle.std.proofs.lemmas.List.{length-map, length-append}
 use Rattle.agg_typing.specs.Literals.{Literal}
 use Rattle.line_forms.specs.Answers.{SpellsTable, SpellsSelect}
-use Rattle.line_forms.specs.Letters.{Each, Letter, Sign, Leads, divided, in_brackets, letters_of, more_parts, name_sign, sign}
-use Rattle.line_forms.specs.Selects.{Call, CallText, IsCallOf, Params, no_params, params, AreParams, Select, call_signs, group_signs, names_signs, params_signs, select_signs}
+use Rattle.line_forms.specs.Letters.{EachPair, Letter, Sign, Leads, divided, in_brackets, letters_of, more_parts, name_sign, sign}
+use Rattle.line_forms.specs.Selects.{SelectCall, CallText, IsCallOf, Params, no_params, params, AreParams, Select, call_signs, group_signs, names_signs, params_signs, select_signs}
 use Rattle.line_forms.specs.Tables.{Column, ColumnText, AreColumns, IsShapeOf, IsTable, column_signs}
 use Rattle.line_tokens.specs.Tokens.{Placed, close_bracket, tokens_of, word}
 use Rattle.request_rules.specs.Selects.{AreFewCalls, IsFewCall}
 use Rattle.request_rules.specs.Tables.{AreCountableShapes, IsCountableShape}
 use Rattle.shape_types.proofs.ShortTexts.{countable, few_tokens, one_each}
 use Rattle.type_names.specs.Syntax.{tokens_in}
-use Rattle.type_names.specs.TypeTexts.{Shape as TypeText}
+use Rattle.type_names.specs.TypeTexts.{WrittenType as TypeText}
 use Rattle.type_names.specs.TypeTexts as type_texts
 use Rattle.type_shapes.specs.Shapes.{Shape}
 
@@ -89,7 +89,7 @@ long_params (params ts) ls h =
     let l = long_brackets sign ts in
     omega (arith, e, l)
 
-few_call : (t : CallText) (c : Call) → IsCallOf t c → length (call_signs t) < 2 ^ 32 → IsFewCall c
+few_call : (t : CallText) (c : SelectCall) → IsCallOf t c → length (call_signs t) < 2 ^ 32 → IsFewCall c
 few_call t c h few =
     let params = long_params t.parameters c.params h.1 in
     let names = long_brackets name_sign t.arguments in
@@ -97,7 +97,7 @@ few_call t c h few =
     let both = length-append (params_signs t.parameters) (in_brackets (names_signs t.arguments)) in
     (omega (arith, few, params, both), omega (arith, few, names, as_many, both))
 
-more_few : (ts : List CallText) (cs : List Call) → Each IsCallOf ts cs → length (more_parts (map call_signs ts)) < 2 ^ 32 → AreFewCalls cs
+more_few : (ts : List CallText) (cs : List SelectCall) → EachPair IsCallOf ts cs → length (more_parts (map call_signs ts)) < 2 ^ 32 → AreFewCalls cs
 more_few [] [] h few = tt
 more_few (t ∷ ts) (c ∷ cs) h few =
     let both = length-append (call_signs t) (more_parts (map call_signs ts)) in
@@ -105,7 +105,7 @@ more_few (t ∷ ts) (c ∷ cs) h few =
 more_few [] (c ∷ cs) h few = absurd h
 more_few (t ∷ ts) [] h few = absurd h
 
-pub calls_few : (ts : List CallText) (cs : List Call) → Each IsCallOf ts cs → length (divided (map call_signs ts)) < 2 ^ 32 → AreFewCalls cs
+pub calls_few : (ts : List CallText) (cs : List SelectCall) → EachPair IsCallOf ts cs → length (divided (map call_signs ts)) < 2 ^ 32 → AreFewCalls cs
 calls_few [] [] h few = tt
 calls_few (t ∷ ts) (c ∷ cs) h few =
     let both = length-append (call_signs t) (more_parts (map call_signs ts)) in

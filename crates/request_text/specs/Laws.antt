@@ -18,13 +18,13 @@ abbrev pub OneSelect : Type 0
 OneSelect = (columns : List Column) (line : List ℕ) (one other : Result Plan Why) → IsSelectJudged columns line one → IsSelectJudged columns line other → one ≡ other
 
 -- Two answers are one, unless memory ran out: queries of the same columns, calls and keys, or the same refusal.
-abbrev pub IsSameAnswer : Result Query RequestFault → Result Query RequestFault → Type 0
-IsSameAnswer (Ok one) (Ok other) = (schema_of one.schema ≡ schema_of other.schema) × (plan_of one.plan ≡ plan_of other.plan)
-IsSameAnswer (Err RequestFault.OutOfMemory) other = Unit {0}
-IsSameAnswer one (Err RequestFault.OutOfMemory) = Unit {0}
-IsSameAnswer (Err one) (Err other) = one ≡ other
-IsSameAnswer one other = ⊥
+abbrev pub IsSameQuery : Result Query RequestFault → Result Query RequestFault → Type 0
+IsSameQuery (Ok one) (Ok other) = (schema_of one.schema ≡ schema_of other.schema) × (plan_of one.plan ≡ plan_of other.plan)
+IsSameQuery (Err RequestFault.OutOfMemory) other = Unit {0}
+IsSameQuery one (Err RequestFault.OutOfMemory) = Unit {0}
+IsSameQuery (Err one) (Err other) = one ≡ other
+IsSameQuery one other = ⊥
 
 -- Two lines have one answer.
 abbrev pub OneAnswer : Type 0
-OneAnswer = (line1 line2 : List ℕ) (one other : Result Query RequestFault) → IsQueryAnswer line1 line2 one → IsQueryAnswer line1 line2 other → IsSameAnswer one other
+OneAnswer = (line1 line2 : List ℕ) (one other : Result Query RequestFault) → IsQueryAnswer line1 line2 one → IsQueryAnswer line1 line2 other → IsSameQuery one other

@@ -1,4 +1,5 @@
 //! The meaning of one line.
+ghost use Rattle.agg_defs.specs.Plans.{PlanFits};
 ghost use Rattle.request_rules.specs.Tables.{AreLegal};
 ghost use Rattle.request_rules.specs.Views.{plan_of, schema_of};
 ghost use Rattle.request_text.specs.Lines.{IsSelectJudged, IsTableJudged, Tells, no_form};
@@ -46,7 +47,8 @@ pub(crate) fn plan_in(alloc: Global, schema: &Schema, line: &[u8]) -> Result<Gro
     requires line { length line.now < 2 ^ 32 }
     requires few { length schema.now.columns ≤ 64 }
     requires legal { AreLegal (schema_of schema.now) }
-    ensures { Tells (IsSelectJudged (schema_of schema.now) line.now) plan_of result }
+    ensures judged { Tells (IsSelectJudged (schema_of schema.now) line.now) plan_of result }
+    ensures fits { IfOk result (PlanFits schema.now) }
 {
     match read_select(alloc, line) {
         Ok(select) => judge_select(alloc, schema, &select),

@@ -1,6 +1,7 @@
 //! What a query asks.
+ghost use Rattle.agg_defs.specs.Plans.{PlanFits};
 ghost use Rattle.request_text.specs.Queries.{IsQueryAnswer, on_line};
-ghost use Rattle.std.specs.Prelude.{◌≡◌, ◌<◌, ◌^◌, length};
+ghost use Rattle.std.specs.Prelude.{◌≡◌, ◌<◌, ◌^◌, length, IfOk};
 
 use crate::lines::{plan_in, schema_in};
 use agg_defs::{GroupPlan, Schema};
@@ -27,7 +28,8 @@ pub fn on_line(line: u64, refusal: Refusal) -> RequestFault
 
 /// The query that two lines ask: a table, as `TABLE day UInt16, page String`, and a request over its columns, as
 /// `SELECT count(), sum(day) GROUP BY page` (manual: "SELECT", "GROUP BY", "Aggregate functions"; what is left out of the
-/// language, the limits and the order of refusals are this project's own choice). Each line has fewer than 2^32 bytes.
+/// language, the limits and the order of refusals are this project's own choice). Each line has fewer than 2^32 bytes. What is
+/// asked agrees with the table: it is a legal view over the table's columns (`law_plans` of agg_defs).
 ///
 /// # Errors
 ///
@@ -37,7 +39,8 @@ pub fn on_line(line: u64, refusal: Refusal) -> RequestFault
 pub fn read_query(alloc: Global, line1: &[u8], line2: &[u8]) -> Result<Query, RequestFault>
     requires table { length line1.now < 2 ^ 32 }
     requires select { length line2.now < 2 ^ 32 }
-    ensures { IsQueryAnswer line1.now line2.now result }
+    ensures query { IsQueryAnswer line1.now line2.now result }
+    ensures agrees { IfOk result (λ query. PlanFits query.schema query.plan) }
 {
     let schema = match schema_in(alloc, line1) {
         Ok(schema) => schema,

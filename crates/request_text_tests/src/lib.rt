@@ -3,3 +3,6 @@
 
 #[cfg(test)]
 mod tests;
+mod uses;
+
+pub use uses::query_of_feeds;

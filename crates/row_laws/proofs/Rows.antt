@@ -8,7 +8,7 @@ use Rattle.agg_terms.specs.Types.{element, inward, key_type, map_part}
 use Rattle.agg_terms.specs.Values.{Nil, Value}
 use Rattle.agg_meaning.specs.Feeds.{AreValues, IfHere, IsFeed, IsLeafFeed, as_tree, entries_of, last, opened, tuples}
 use Rattle.agg_meaning.proofs.LeafTrees.{each_map}
-use Rattle.agg_typing.specs.Kinds.{arg_types, each_is, is_array, is_condition, is_map, is_number, last_is, within}
+use Rattle.agg_typing.specs.Kinds.{arg_types, each_is, is_array, is_condition, is_map, is_number, last_is, with_parts}
 use Rattle.agg_typing.specs.States.{is_state_of, is_state_or_merge}
 use Rattle.agg_typing.specs.Same.{same_chain}
 use Rattle.agg_typing.specs.Promises.{IsLegalCall}
@@ -96,19 +96,19 @@ row (C.Resample start end step c) ts r l n k =
     )
 row (C.Array c) ts r l n k =
     let p : Passes (C.Array c) (numbered 1 ts) = legal_passes (C.Array c) ts l in
-    let t = or_none (each_is is_array (numbered 1 ts)) (arg_types c (within element (numbered 1 ts))) p.types_ok in
+    let t = or_none (each_is is_array (numbered 1 ts)) (arg_types c (with_parts element (numbered 1 ts))) p.types_ok in
     let inner : IsLegalCall c (map element ts) = inner_is_legal (C.Array c) c ts refl l in
     each_map (AreValues (map element ts)) (IsFeed c (map element ts)) (opened c)
     (λ one h. row c (map element ts) one inner (each_narrow element element_narrow ts n) h) (tuples r) (tuples_are ts r (arrays c ts t.0) k)
 row (C.ForEach c) ts r l n k =
     let p : Passes (C.ForEach c) (numbered 1 ts) = legal_passes (C.ForEach c) ts l in
-    let t = or_none (each_is is_array (numbered 1 ts)) (arg_types c (within element (numbered 1 ts))) p.types_ok in
+    let t = or_none (each_is is_array (numbered 1 ts)) (arg_types c (with_parts element (numbered 1 ts))) p.types_ok in
     let inner : IsLegalCall c (map element ts) = inner_is_legal (C.ForEach c) c ts refl l in
     each_map (AreValues (map element ts)) (IfHere (IsFeed c (map element ts))) (λ one. Some (opened c one))
     (λ one h. row c (map element ts) one inner (each_narrow element element_narrow ts n) h) (tuples r) (tuples_are ts r (arrays c ts t.0) k)
 row (C.MapOf c) ts r l n k =
     let p : Passes (C.MapOf c) (numbered 1 ts) = legal_passes (C.MapOf c) ts l in
-    let t = or_none (each_is is_map (numbered 1 ts)) (arg_types c (within map_part (numbered 1 ts))) p.types_ok in
+    let t = or_none (each_is is_map (numbered 1 ts)) (arg_types c (with_parts map_part (numbered 1 ts))) p.types_ok in
     let only = one is_map (λ u. is_map u ≡ true) (λ u e. e) (numbered 1 ts) p.least_ok p.greatest_ok t.0 in
     let is : ts ≡ only.0 ∷ [] = sym (types-numbered 1 ts) ∙ only.1 in
     let inner : IsLegalCall c (map map_part ts) = inner_is_legal (C.MapOf c) c ts refl l in

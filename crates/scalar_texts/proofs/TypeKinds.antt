@@ -1,7 +1,7 @@
 -- What a field says, by the type's kind, for the code's matches.
 use Rattle.std.proofs.Common.{◌≡◌, ℕ, pos, negsuc, List, map, Result, ap, sym, subst, ◌∙◌}
 use Rattle.agg_terms.specs.Chains as terms
-use Rattle.agg_terms.specs.Fitting.{within}
+use Rattle.agg_terms.specs.Fitting.{is_between}
 use Rattle.value_types.specs.declared.chain.Chain.{Chain}
 use Rattle.value_types.specs.declared.ty.Ty.{Ty}
 use Rattle.value_types.specs.declared.ty.Ty.TheVariants as ty
@@ -59,28 +59,28 @@ module _ (t : Ty) (text : List ℕ) (r : Result Value FieldFault) where
   abbrev In : terms.Ty → Type 0
   In u = IsNumericAnswer (in_range u) text r
 
-  pub in_U8 : t ≡ ty.U8 → IsNumericAnswer (within (pos 0) (pos 255)) text r → IsNumericAnswer (in_range (ty_of t)) text r
+  pub in_U8 : t ≡ ty.U8 → IsNumericAnswer (is_between (pos 0) (pos 255)) text r → IsNumericAnswer (in_range (ty_of t)) text r
   in_U8 e h = subst In (sym (ap ty_of e ∙ ty_of-U8)) h
 
-  pub in_U16 : t ≡ ty.U16 → IsNumericAnswer (within (pos 0) (pos 65535)) text r → IsNumericAnswer (in_range (ty_of t)) text r
+  pub in_U16 : t ≡ ty.U16 → IsNumericAnswer (is_between (pos 0) (pos 65535)) text r → IsNumericAnswer (in_range (ty_of t)) text r
   in_U16 e h = subst In (sym (ap ty_of e ∙ ty_of-U16)) h
 
-  pub in_U32 : t ≡ ty.U32 → IsNumericAnswer (within (pos 0) (pos 4294967295)) text r → IsNumericAnswer (in_range (ty_of t)) text r
+  pub in_U32 : t ≡ ty.U32 → IsNumericAnswer (is_between (pos 0) (pos 4294967295)) text r → IsNumericAnswer (in_range (ty_of t)) text r
   in_U32 e h = subst In (sym (ap ty_of e ∙ ty_of-U32)) h
 
-  pub in_U64 : t ≡ ty.U64 → IsNumericAnswer (within (pos 0) (pos 18446744073709551615)) text r → IsNumericAnswer (in_range (ty_of t)) text r
+  pub in_U64 : t ≡ ty.U64 → IsNumericAnswer (is_between (pos 0) (pos 18446744073709551615)) text r → IsNumericAnswer (in_range (ty_of t)) text r
   in_U64 e h = subst In (sym (ap ty_of e ∙ ty_of-U64)) h
 
-  pub in_I8 : t ≡ ty.I8 → IsNumericAnswer (within (negsuc 127) (pos 127)) text r → IsNumericAnswer (in_range (ty_of t)) text r
+  pub in_I8 : t ≡ ty.I8 → IsNumericAnswer (is_between (negsuc 127) (pos 127)) text r → IsNumericAnswer (in_range (ty_of t)) text r
   in_I8 e h = subst In (sym (ap ty_of e ∙ ty_of-I8)) h
 
-  pub in_I16 : t ≡ ty.I16 → IsNumericAnswer (within (negsuc 32767) (pos 32767)) text r → IsNumericAnswer (in_range (ty_of t)) text r
+  pub in_I16 : t ≡ ty.I16 → IsNumericAnswer (is_between (negsuc 32767) (pos 32767)) text r → IsNumericAnswer (in_range (ty_of t)) text r
   in_I16 e h = subst In (sym (ap ty_of e ∙ ty_of-I16)) h
 
-  pub in_I32 : t ≡ ty.I32 → IsNumericAnswer (within (negsuc 2147483647) (pos 2147483647)) text r → IsNumericAnswer (in_range (ty_of t)) text r
+  pub in_I32 : t ≡ ty.I32 → IsNumericAnswer (is_between (negsuc 2147483647) (pos 2147483647)) text r → IsNumericAnswer (in_range (ty_of t)) text r
   in_I32 e h = subst In (sym (ap ty_of e ∙ ty_of-I32)) h
 
-  pub in_I64 : t ≡ ty.I64 → IsNumericAnswer (within (negsuc 9223372036854775807) (pos 9223372036854775807)) text r → IsNumericAnswer (in_range (ty_of t)) text r
+  pub in_I64 : t ≡ ty.I64 → IsNumericAnswer (is_between (negsuc 9223372036854775807) (pos 9223372036854775807)) text r → IsNumericAnswer (in_range (ty_of t)) text r
   in_I64 e h = subst In (sym (ap ty_of e ∙ ty_of-I64)) h
 
 pub ruleset range_laws = (in_U8, in_U16, in_U32, in_U64, in_I8, in_I16, in_I32, in_I64, unranged_Str, unranged_Arr, unranged_Map, unranged_Nullable, unranged_State)

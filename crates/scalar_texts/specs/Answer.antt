@@ -51,9 +51,9 @@ abbrev pub state_answer : ReadsStates → Ty → List ℕ → Result family.Valu
 state_answer reads ty text = not_hex_or (hex_fault text) (cell_of (reads ty (hex_bytes text)))
 
 -- The field is `\N`.
-abbrev pub is_null : List ℕ → Bool
-is_null (b ∷ c ∷ []) = b == 92 && c == 78
-is_null field = false
+abbrev pub is_null_text : List ℕ → Bool
+is_null_text (b ∷ c ∷ []) = b == 92 && c == 78
+is_null_text field = false
 
 abbrev pub null_answer : Ty → Result family.Value FieldFault
 null_answer ty = if may_be_null ty then Ok family.Nil else Err NotNullable

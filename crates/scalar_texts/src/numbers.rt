@@ -3,7 +3,7 @@ ghost use Rattle.std.specs.Prelude.{◌≡◌, ◌≤◌, ◌^◌, ◌≤ℤ◌,
 ghost use Rattle.std.specs.Char.{is_ascii_digit};
 ghost use Rattle.std.specs.List.{list_all};
 ghost use Rattle.std.specs.Str.Parse.{digits_value};
-ghost use Rattle.agg_terms.specs.Fitting.{within};
+ghost use Rattle.agg_terms.specs.Fitting.{is_between};
 ghost use Rattle.field_texts.specs.Syntax.{IsDigits};
 ghost use Rattle.scalar_texts.specs.Numbers.{IsDigitsAnswer, IsNumberAnswer, IsSignedAnswer, signed, split_sign};
 
@@ -107,7 +107,7 @@ fn signed(minus: bool, size: u64) -> i128
 fn signed_number(low: i128, high: i128, minus: bool, digits: &[u8]) -> Result<i128, NumberFault>
     requires low { negsuc (2 ^ 63 - 1) ≤ℤ low }
     requires high { high ≤ℤ pos (2 ^ 64 - 1) }
-    ensures { IsSignedAnswer (within low high) minus digits.now result }
+    ensures { IsSignedAnswer (is_between low high) minus digits.now result }
 {
     match digits_number(digits) {
         Ok(size) => {
@@ -126,7 +126,7 @@ fn signed_number(low: i128, high: i128, minus: bool, digits: &[u8]) -> Result<i1
 pub(crate) fn read_number(low: i128, high: i128, text: &[u8]) -> Result<i128, NumberFault>
     requires low { negsuc (2 ^ 63 - 1) ≤ℤ low }
     requires high { high ≤ℤ pos (2 ^ 64 - 1) }
-    ensures { IsNumberAnswer (within low high) text.now result }
+    ensures { IsNumberAnswer (is_between low high) text.now result }
 {
     let (minus, digits) = split_sign(text);
     signed_number(low, high, minus, digits)

@@ -2,10 +2,10 @@
 ghost use Rattle.std.specs.Prelude.{◌≡◌, ◌-◌, ◌^◌, ◌≤ℤ◌, pos, negsuc, nat_lt, IfOk, IsTrue};
 ghost use Rattle.std.specs.List.{list_all};
 ghost use Rattle.agg_terms.specs.Chains.{Str};
-ghost use Rattle.agg_terms.specs.Fitting.{fits_value, within};
+ghost use Rattle.agg_terms.specs.Fitting.{fits_value, is_between};
 ghost use Rattle.agg_terms.specs.Values as family;
 ghost use Rattle.value_types.specs.Folds.{ty_of, value_of};
-ghost use Rattle.scalar_texts.specs.Answer.{Agrees, IsNumericAnswer, IsTextAnswer, IsScalar, IsScalarAnswer, is_null, null_answer, state_answer};
+ghost use Rattle.scalar_texts.specs.Answer.{Agrees, IsNumericAnswer, IsTextAnswer, IsScalar, IsScalarAnswer, is_null_text, null_answer, state_answer};
 ghost use Rattle.scalar_texts.specs.Numbers.{HasRange, in_range};
 ghost use Rattle.scalar_texts.specs.States.{AllStates};
 
@@ -22,7 +22,7 @@ use value_types::{Bytes, Ty, Value, is_nullable};
 fn number(low: i128, high: i128, field: &[u8]) -> Result<Value, FieldFault>
     requires low { negsuc (2 ^ 63 - 1) ≤ℤ low }
     requires high { high ≤ℤ pos (2 ^ 64 - 1) }
-    ensures { IsNumericAnswer (within low high) field.now result }
+    ensures { IsNumericAnswer (is_between low high) field.now result }
 {
     match read_number(low, high, field) {
         Ok(number) => Ok(Value::Num(number)),
@@ -169,7 +169,7 @@ pub fn read_null(ty: &Ty) -> Result<Value, FieldFault>
 
 /// Whether the field is `\N`.
 pub fn is_null(field: &[u8]) -> bool
-    ensures { result ≡ is_null field.now }
+    ensures { result ≡ is_null_text field.now }
 {
     matches!(field, [b'\\', b'N'])
 }

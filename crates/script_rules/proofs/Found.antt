@@ -60,7 +60,7 @@ made (Ok plan) name view e =
     sym (ap (λ (v : View). v.name) (same_value here view e))
 made (Err why) name view e = absurd cc
 
-abbrev Kept : List View → Type 0
+abbrev pub Kept : List View → Type 0
 Kept views = (length views ≤ 16) × AreFound views
 
 push_found : (before : List View) (view : View) → AreFound before → is_none (place_of before view.name) ≡ true → AreFound (before ++ view ∷ [])
@@ -70,7 +70,7 @@ push_found before view found new place other here =
     (new_push (has_name view.name) before view new (own_name view.name) ∙ ap Some (sym h.0)))
     (at_push before view other place here)
 
-one_more : (columns : List Column) (before : List View) (line : ViewLine) (view : View) → Kept before → judged_view columns before line.0 line.1 ≡ Ok view → Kept (before ++ view ∷ [])
+pub one_more : (columns : List Column) (before : List View) (line : ViewLine) (view : View) → Kept before → judged_view columns before line.0 line.1 ≡ Ok view → Kept (before ++ view ∷ [])
 one_more columns before line view kept e =
     let counted = past (within_limits line.1) _ view e in
     let few = passed_first (nat_le (suc (length before)) 16) (Why.Limit LimitName.Views) _ view counted in

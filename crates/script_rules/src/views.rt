@@ -1,4 +1,5 @@
 //! The rules on views.
+ghost use Rattle.agg_defs.specs.Plans.{PlanFits};
 ghost use Rattle.line_forms.specs.Views.{name_of, select_of};
 ghost use Rattle.request_rules.specs.Answers.{Says};
 ghost use Rattle.request_rules.specs.Selects.{AreFewCalls};
@@ -58,7 +59,7 @@ fn check_name(before: &[View], name: &WrittenName) -> Result<(), Refusal>
 
 /// The view of a name over a table, behind the views that stand before it, by its rules in their order: a request with at
 /// most 64 calls and at most 8 keys, at most 16 views, a name that no view before it has, and then what
-/// [`judge_select`] asks of the request. The order is this project's own choice.
+/// [`judge_select`] asks of the request. The order is this project's own choice. The view's plan agrees with the table.
 ///
 /// # Errors
 ///
@@ -75,6 +76,7 @@ pub fn judge_view(
     requires legal { AreLegal (schema_of schema.now) }
     ensures judged { Says view_of result (rules.judged_view (schema_of schema.now) (views_of before.now) (name_of name.now) (select_of select.now)) }
     ensures few { IfOk result (λ _. length before.now < 16) }
+    ensures fits { IfOk result (λ view. PlanFits schema.now view.plan) }
 {
     check_limits(select)?;
     check_count(before)?;

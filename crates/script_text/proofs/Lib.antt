@@ -5,3 +5,4 @@ mod ShortLines
 mod Stepped
 mod Read
 mod OneScript
+mod ViewsFound

@@ -25,13 +25,13 @@ met x = Ok x
 abbrev broken : (X : Type 0) → Why → Result X Why
 broken X why = Err why
 
-same_value : {X : Type 0} (a b : X) → met a ≡ met b → a ≡ b
+pub same_value : {X : Type 0} (a b : X) → met a ≡ met b → a ≡ b
 same_value a b e = cc
 
 same_why : (X : Type 0) (v w : Why) → broken X v ≡ broken X w → v ≡ w
 same_why X v w e = cc
 
-not_both : (X : Type 0) (a : X) (w : Why) → met a ≡ broken X w → ⊥
+pub not_both : (X : Type 0) (a : X) (w : Why) → met a ≡ broken X w → ⊥
 not_both X a w e = cc
 
 not_blank_and_full : (b : Bool) → b ≡ true → b ≡ false → ⊥
@@ -102,7 +102,7 @@ same_done a b e = cc
 same_failed : (v w : RequestFault) → failed v ≡ failed w → v ≡ w
 same_failed v w e = cc
 
-not_done : (a : Script) (w : RequestFault) → done a ≡ failed w → ⊥
+pub not_done : (a : Script) (w : RequestFault) → done a ≡ failed w → ⊥
 not_done a w e = cc
 
 pub one_answer : OneScript → OneAnswer

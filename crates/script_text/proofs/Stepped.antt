@@ -1,14 +1,19 @@
 -- What lines add to a script.
-use Rattle.std.proofs.Common.{◌≡◌, refl, sym, ap, subst, ◌∙◌, ℕ, ◌+◌, ◌≤◌, List, [], ◌∷◌, ◌++◌, length, map, Result, Ok, Err, IfOk, arith}
+use Rattle.std.proofs.Common.{◌≡◌, refl, sym, ap, subst, ◌∙◌, ℕ, ◌+◌, ◌≤◌, ◌<◌, List, [], ◌∷◌, ◌++◌, length, map, Result, Ok, Err, IfOk, arith}
 use Rattle.std.proofs.lemmas.List.{length-append, map-append}
+use Rattle.agg_defs.specs.Plans.{PlanFits}
+use Rattle.agg_defs.specs.declared.schema.Schema.{Schema}
 use Rattle.agg_defs.specs.declared.views.View as code_view
+use Rattle.agg_defs.specs.declared.views.Views.{Views}
 use Rattle.line_forms.specs.Letters.{Every, Name}
 use Rattle.line_forms.specs.ScriptLines.{Line, Insert, Load}
 use Rattle.line_forms.specs.Views.{line_of}
 use Rattle.line_forms.specs.declared.script_line.WrittenLine.{WrittenLine}
 use Rattle.refusals.specs.declared.why.Why.{Why}
 use Rattle.request_rules.specs.Answers.{Says}
+use Rattle.request_rules.specs.Tables.{AreLegal}
 use Rattle.request_rules.specs.Turns.{and_then}
+use Rattle.request_rules.specs.Views.{schema_of}
 use Rattle.request_rules.specs.declared.refusal.Refusal.{Refusal}
 use Rattle.script_rules.specs.Folds.{views_of}
 use Rattle.script_rules.specs.Views.{known_view}
@@ -168,3 +173,23 @@ view_kept text s view list new h =
       statements = every-map (λ (session : Session). Every (IsStatement text (length s.views.list)) session.statements) (λ (session : Session). Every (IsStatement text (length list)) session.statements)
           (λ session. every-map (IsStatement text (length s.views.list)) (IsStatement text (length list)) (more_views text (length s.views.list) (length list) le) session.statements) s.sessions h.statements;
     }
+
+abbrev with_views : Views → List code_view.View → Views
+with_views views list = record { schema = views.schema; list = list }
+
+pub views_more : (views : Views) (view : code_view.View) (list : List code_view.View) → list ≡ views.list ++ view ∷ [] → length views.list < 16 → AreViews views → PlanFits views.schema view.plan → AreViews (with_views views list)
+views_more views view list new less h fits =
+    let many : length list ≡ length views.list + 1 = ap length new ∙ length-append views.list (view ∷ []) in
+    record {
+      few_columns = h.few_columns;
+      legal = h.legal;
+      few_views = omega (arith, many, less);
+      fit = subst (Every (λ (v : code_view.View). PlanFits views.schema v.plan)) (sym new)
+          (every-append (λ (v : code_view.View). PlanFits views.schema v.plan) views.list (view ∷ []) h.fit (fits, tt));
+    }
+
+pub views_none : (views : Views) (schema : Schema) → views.schema ≡ schema → views.list ≡ [] → length schema.columns ≤ 64 → AreLegal (schema_of schema) → AreViews views
+views_none views schema is none few legal =
+    subst (λ (list : List code_view.View). AreViews (record { schema = views.schema; list = list })) (sym none)
+    (subst (λ (s : Schema). AreViews (record { schema = s; list = [] })) (sym is)
+    (record { few_columns = few; legal = legal; few_views = omega arith; fit = tt }))

@@ -1,6 +1,8 @@
 -- What the reader of a script answers.
 use Rattle.std.specs.Prelude.{◌≡◌, ℕ, ◌≤◌, ◌<◌, List, length, map, Result, Ok, Err}
 use Rattle.std.specs.List.{slice_range}
+use Rattle.agg_defs.specs.Plans.{PlanFits}
+use Rattle.agg_defs.specs.declared.views.View.{View}
 use Rattle.agg_defs.specs.declared.views.Views.{Views}
 use Rattle.line_forms.specs.Letters.{Every}
 use Rattle.refusals.specs.declared.why.RequestFault.{RequestFault}
@@ -39,11 +41,12 @@ IsScriptAnswer text (Ok s) = IsScriptOf (lines_at text 0) (Ok (script_of text s)
 IsScriptAnswer text (Err (RequestFault.Bad line why)) = IsScriptOf (lines_at text 0) (Err (RequestFault.Bad line why))
 IsScriptAnswer text (Err RequestFault.OutOfMemory) = Unit {0}
 
--- A table of at most 64 columns with legal types, and at most 16 views of it.
+-- A table of at most 64 columns with legal types, and at most 16 views of it, whose plans agree with the table.
 pub record AreViews (views : Views) : Type 0 where
   pub few_columns : length views.schema.columns ≤ 64
   pub legal : AreLegal (schema_of views.schema)
   pub few_views : length views.list ≤ 16
+  pub fit : Every (λ (view : View). PlanFits views.schema view.plan) views.list
 
 -- The places are in the text, one not before the other, and between them are as many lines as are counted.
 abbrev pub AreWithin : List ℕ → code_lines.Lines → Type 0

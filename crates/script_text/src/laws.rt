@@ -1,5 +1,5 @@
 //! What holds of scripts, as the contract of a function that does nothing.
-ghost use Rattle.script_text.specs.Laws.{OneAnswer, OneScript};
+ghost use Rattle.script_text.specs.Laws.{OneAnswer, OneScript, ViewsOfLinesAreFound};
 
 use line_forms::law_one_form;
 use request_text::law_one_query;
@@ -12,3 +12,8 @@ pub fn law_one_script()
     law_one_form();
     law_one_query();
 }
+
+/// Each view of a script is found by its name, at its own place among at most 16.
+pub fn law_script_views()
+    ensures { ViewsOfLinesAreFound }
+{}

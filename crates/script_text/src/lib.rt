@@ -15,6 +15,6 @@ mod reading;
 mod script;
 mod steps;
 
-pub use laws::law_one_script;
+pub use laws::{law_one_script, law_script_views};
 pub use reading::read_script;
 pub use script::{Lines, Script, Session, Statement};

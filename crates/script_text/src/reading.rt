@@ -3,7 +3,7 @@ ghost use Rattle.request_rules.specs.Views.{schema_of};
 ghost use Rattle.script_text.specs.Answers.{AreSessions, AreViews, IsScriptAnswer, script_of};
 ghost use Rattle.script_text.specs.Scripts.{of_table};
 ghost use Rattle.script_text.specs.proving.Taking.{IsJudgedAt, ReadsOn, Steps};
-ghost use Rattle.std.specs.Prelude.{◌≡◌, ◌≤◌, ◌<◌, ◌^◌, ℕ, List, length, IfOk};
+ghost use Rattle.std.specs.Prelude.{◌≡◌, ◌≤◌, ◌<◌, ◌^◌, ℕ, List, [], length, IfOk};
 
 use crate::forms::read_form;
 use crate::placing::{is_blank, line_1, line_at};
@@ -21,7 +21,7 @@ fn of_table(alloc: Global, schema: Schema) -> Script
     ensures table { result.views.schema ≡ schema }
     ensures none { (text : List ℕ) → script_of text result ≡ of_table (schema_of schema) }
     ensures sessions { (text : List ℕ) → AreSessions text result }
-    ensures views { length result.views.list ≤ 16 }
+    ensures views { result.views.list ≡ [] }
 {
     Script {
         views: Views {

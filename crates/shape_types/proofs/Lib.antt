@@ -5,3 +5,4 @@ mod AtPlaces
 mod PlainNames
 pub mod ShortTexts
 pub mod LegalTypes
+mod AllowedParts

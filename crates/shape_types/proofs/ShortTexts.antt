@@ -45,7 +45,7 @@ one_each (t ∷ ts) (l ∷ ls) h = ap suc (one_each ts ls h.1)
 one_each [] (l ∷ ls) h = absurd h
 one_each (t ∷ ts) [] h = absurd h
 
-as_many : (ws : written.Shapes) (ss : Shapes) → AllSpell ws ss → shape_count ss ≤ length (tokens_of_all ws)
+as_many : (ws : written.WrittenTypes) (ss : Shapes) → AllSpell ws ss → shape_count ss ≤ length (tokens_of_all ws)
 as_many written.none no_shapes h = omega arith
 as_many (written.and_one w ws) (a_shape s ss) h =
     let more = as_many ws ss h.1 in
@@ -55,7 +55,7 @@ as_many written.none (a_shape s ss) h = absurd h
 as_many (written.and_one w ws) no_shapes h = absurd h
 
 mutual
-  pub countable : (w : written.Shape) (s : Shape) → Spells w s → length (tokens_of w) < 2 ^ 32 → IsCountable s
+  pub countable : (w : written.WrittenType) (s : Shape) → Spells w s → length (tokens_of w) < 2 ^ 32 → IsCountable s
   countable (written.plain name) s h few = each_name IsCountable (λ n. tt) (λ w. tt) tt name s h
   countable (written.array ty) (Arr s) h few =
       let long = length-append (tokens_of ty) (close_bracket ∷ []) in countable ty s h (omega (arith, few, long))
@@ -76,7 +76,7 @@ mutual
   countable (written.map_of key ty) s h few = absurd h
   countable (written.state name literals types) s h few = absurd h
 
-  all_countable : (ws : written.Shapes) (ss : Shapes) → AllSpell ws ss → length (tokens_of_all ws) < 2 ^ 32 → AreCountable ss
+  all_countable : (ws : written.WrittenTypes) (ss : Shapes) → AllSpell ws ss → length (tokens_of_all ws) < 2 ^ 32 → AreCountable ss
   all_countable written.none no_shapes h few = tt
   all_countable (written.and_one w ws) (a_shape s ss) h few =
       let both = length-append (tokens_of w) (tokens_of_all ws) in

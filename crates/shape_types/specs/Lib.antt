@@ -1,3 +1,4 @@
 pub mod Types
 pub mod Countable
 pub mod Legal
+pub mod AllowedParts

@@ -1,5 +1,6 @@
 //! What holds of shapes, as contracts of functions that do nothing.
 
+ghost use Rattle.shape_types.specs.AllowedParts.{AllowedPartsGiveLegalTypes};
 ghost use Rattle.shape_types.specs.Countable.{ShortTextsAreCountable};
 ghost use Rattle.shape_types.specs.Legal.{ReadTypesAreLegal};
 
@@ -13,6 +14,14 @@ pub fn law_short_texts_are_countable()
 /// The type that a shape which was read stands for is legal, so that `resolve` of chain_types takes it for an argument.
 pub fn law_read_types_are_legal()
     ensures { ReadTypesAreLegal }
+{
+    law_typing();
+}
+
+/// Each shape whose Nullables and maps have the parts that they may have stands for a legal type, also one that no text was
+/// read for.
+pub fn law_allowed_parts()
+    ensures { AllowedPartsGiveLegalTypes }
 {
     law_typing();
 }

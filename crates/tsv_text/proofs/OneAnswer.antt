@@ -2,7 +2,7 @@
 use Rattle.std.proofs.Common.{◌≡◌, ℕ, suc, ◌+◌, ◌*◌, Bool, true, false, cond, List, [], ◌∷◌, ◌++◌, length, Result, Ok, Err, refl, sym, ap, ◌∙◌, arith, eqb, ◌&&◌}
 use Rattle.tsv_text.specs.declared.fault.TextFault.{TextFault}
 use Rattle.tsv_text.specs.declared.fault.TextFault.TheVariants.{LoneBackslash, BadHex, OutOfMemory}
-use Rattle.tsv_text.specs.Escapes.{Piece, plain, letter, hexed, piece_text, piece_byte, IsPiece, ArePieces, pieces_then, pieces_bytes, is_hex_digit, hex_value, meaning_of, begins_with_hex, IsUnescaped, IsSameAnswer}
+use Rattle.tsv_text.specs.Escapes.{Piece, plain, letter, hexed, piece_text, piece_byte, IsPiece, ArePieces, pieces_then, pieces_bytes, is_hex_digit, hex_value, meaning_of, begins_with_hex, IsUnescaped, IsSameUnescaped}
 
 abbrev Answer : Type 0
 Answer = Result (List ℕ) TextFault
@@ -84,7 +84,7 @@ read_bad field at h =
     let place : size h.0 + 0 ≡ at = omega (arith, h.5, ap length h.3, length-then h.0 (92 ∷ 120 ∷ h.1)) in
     ap (read 0 plainly) h.3 ∙ read-then h.0 0 (92 ∷ 120 ∷ h.1) h.2 ∙ ap (all_onto h.0) (behind_x_bad (size h.0 + 0) h.1 h.4) ∙ all_err h.0 (BadHex (size h.0 + 0)) ∙ ap (λ n. Err (BadHex n)) place
 
-pub one_answer : (field : List ℕ) (one other : Answer) → IsUnescaped field one → IsUnescaped field other → IsSameAnswer one other
+pub one_answer : (field : List ℕ) (one other : Answer) → IsUnescaped field one → IsUnescaped field other → IsSameUnescaped one other
 one_answer field (Err OutOfMemory) other h k = tt
 one_answer field (Ok a) (Err OutOfMemory) h k = tt
 one_answer field (Err (LoneBackslash m)) (Err OutOfMemory) h k = tt

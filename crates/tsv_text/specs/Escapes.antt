@@ -72,10 +72,10 @@ seen view (Ok x) = Ok (view x)
 seen view (Err fault) = Err fault
 
 -- Two answers are one, unless memory ran out.
-abbrev pub IsSameAnswer : Result (List ℕ) TextFault → Result (List ℕ) TextFault → Type 0
-IsSameAnswer (Err OutOfMemory) other = Unit {0}
-IsSameAnswer one (Err OutOfMemory) = Unit {0}
-IsSameAnswer one other = one ≡ other
+abbrev pub IsSameUnescaped : Result (List ℕ) TextFault → Result (List ℕ) TextFault → Type 0
+IsSameUnescaped (Err OutOfMemory) other = Unit {0}
+IsSameUnescaped one (Err OutOfMemory) = Unit {0}
+IsSameUnescaped one other = one ≡ other
 
 -- The letter that is written behind a backslash for a byte, or 0 for a byte that is written as itself.
 abbrev pub letter_of : ℕ → ℕ

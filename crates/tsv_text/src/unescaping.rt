@@ -2,7 +2,7 @@
 
 ghost use Rattle.std.specs.Prelude.{◌≡◌, IsTrue, ◌<◌, ◌+◌, ◌*◌, ◌&&◌, ℕ, List, Result, length, position};
 ghost use Rattle.tsv_text.specs.declared.fault.TextFault.{TextFault};
-ghost use Rattle.tsv_text.specs.Escapes.{is_hex_digit, hex_value, meaning_of, seen, IsUnescaped, IsSameAnswer};
+ghost use Rattle.tsv_text.specs.Escapes.{is_hex_digit, hex_value, meaning_of, seen, IsUnescaped, IsSameUnescaped};
 ghost use Rattle.tsv_text.specs.proving.Behind.{behind_x, behind_backslash, is_backslash};
 
 use crate::fault::TextFault;
@@ -101,5 +101,5 @@ pub fn unescape(alloc: Global, field: &[u8]) -> Result<Bytes, TextFault>
 
 /// A field has one answer: it doesn't stand for two texts, nor for a text and a fault, and its first fault is at one place.
 pub fn law_one_answer()
-    ensures { (field : List ℕ) (one other : Result (List ℕ) TextFault) → IsUnescaped field one → IsUnescaped field other → IsSameAnswer one other }
+    ensures { (field : List ℕ) (one other : Result (List ℕ) TextFault) → IsUnescaped field one → IsUnescaped field other → IsSameUnescaped one other }
 {}

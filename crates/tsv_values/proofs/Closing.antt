@@ -4,7 +4,8 @@ use Rattle.std.specs.List.{position}
 use Rattle.std.proofs.lemmas.Bool.{and_parts, eqb-true, eqb-false, leb-true, or_cases}
 use Rattle.std.proofs.lemmas.Bool.Decides.{eqb_tells, nat_tests}
 use Rattle.tsv_text.specs.Escapes.{Piece, plain, letter, hexed, piece_text, pieces_then, ArePieces, is_hex_digit}
-use Rattle.field_texts.specs.Syntax.{AllFitInQuotes, IsHex, closed_text}
+use Rattle.field_texts.specs.Syntax.{AllFitInQuotes, closed_text}
+use Rattle.field_texts.proofs.Marks.{IsHex, hex_stands}
 use Rattle.tsv_values.specs.proving.Reading.{behind_quote, is_special}
 use Rattle.tsv_values.proofs.First.{Fails, all_fail, first_found}
 
@@ -102,36 +103,19 @@ behind_pieces [] rest f = refl
 behind_pieces (plain b ∷ ps) rest f = rw (ne_eqb b 39 f.0.0, ne_eqb b 92 f.0.1) (behind_pieces ps rest f.1)
 behind_pieces (letter c ∷ ps) rest f = behind_pieces ps rest f.1
 behind_pieces (hexed high low ∷ ps) rest f =
-    let h = hex_plain high f.0.0 in
-    let l = hex_plain low f.0.1 in
+    let h = hex_plain high (hex_stands high f.0.0) in
+    let l = hex_plain low (hex_stands low f.0.1) in
     rw (h.0, h.1, l.0, l.1) (behind_pieces ps rest f.1)
 
 then-append : (ps : List Piece) (a b : List ℕ) → pieces_then ps a ++ b ≡ pieces_then ps (a ++ b)
 then-append [] a b = refl
 then-append (p ∷ ps) a b = append_assoc (piece_text p) (pieces_then ps a) b ∙ ap (λ t. piece_text p ++ t) (then-append ps a b)
 
-between : (l h b : ℕ) → (leb l b && leb b h) ≡ true → (l ≤ b) × (b ≤ h)
-between l h b e = let p = and_parts (leb l b) (leb b h) e in (leb-true l b p.0, leb-true b h p.1)
-
-is_hex : (b : ℕ) → is_hex_digit b ≡ true → IsHex b
-is_hex b e = elim (or_cases ((leb 48 b && leb b 57) || (leb 97 b && leb b 102)) (leb 65 b && leb b 70) e) [
-  | inr up ↦ inr (inr (between 65 70 b up))
-  | inl low ↦ elim (or_cases (leb 48 b && leb b 57) (leb 97 b && leb b 102) low) [
-    | inl d ↦ inl (between 48 57 b d)
-    | inr l ↦ inr (inl (between 97 102 b l))
-  ]
-]
-
-hex_is : (b : ℕ) → IsHex b → is_hex_digit b ≡ true
-hex_is b (inl h) = grind (arith, nat_tests, h)
-hex_is b (inr (inl h)) = grind (arith, nat_tests, h)
-hex_is b (inr (inr h)) = grind (arith, nat_tests, h)
-
 pub fit_pieces : (ps : List Piece) → AllFitInQuotes ps → ArePieces ps
 fit_pieces [] f = tt
 fit_pieces (plain b ∷ ps) f = (ne_eqb b 92 f.0.1, fit_pieces ps f.1)
 fit_pieces (letter c ∷ ps) f = (ne_eqb c 120 f.0, fit_pieces ps f.1)
-fit_pieces (hexed high low ∷ ps) f = (rw (hex_is high f.0.0) (hex_is low f.0.1), fit_pieces ps f.1)
+fit_pieces (hexed high low ∷ ps) f = (rw f.0.0 f.0.1, fit_pieces ps f.1)
 
 longer : (ps : List Piece) (rest : List ℕ) → length rest < length (pieces_then ps (39 ∷ rest))
 longer [] rest = omega arith
@@ -151,10 +135,10 @@ pieces_fit (plain b ∷ ps) rest p e = plain_test (eqb b 39) b ps rest refl p.0 
 pieces_fit (letter c ∷ ps) rest p e = (eqb-false c 120 p.0, pieces_fit ps rest p.1 e)
 pieces_fit (hexed high low ∷ ps) rest p e =
     let d = and_parts (is_hex_digit high) (is_hex_digit low) p.0 in
-    let h = hex_plain high (is_hex high d.0) in
-    let l = hex_plain low (is_hex low d.1) in
+    let h = hex_plain high (hex_stands high d.0) in
+    let l = hex_plain low (hex_stands low d.1) in
     let e : behind_quote false (pieces_then ps (39 ∷ rest)) ≡ Some rest = rw (h.0, h.1, l.0, l.1) at e in
-    ((is_hex high d.0, is_hex low d.1), pieces_fit ps rest p.1 e)
+    ((d.0, d.1), pieces_fit ps rest p.1 e)
 
 pub closed-append : (ps : List Piece) (rest : List ℕ) → closed_text ps ++ rest ≡ pieces_then ps (39 ∷ rest)
 closed-append ps rest = then-append ps (39 ∷ []) rest

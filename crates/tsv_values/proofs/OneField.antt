@@ -12,13 +12,13 @@ use Rattle.tsv_text.specs.Escapes as escapes
 use Rattle.tsv_text.specs.declared.fault.TextFault.{TextFault}
 use Rattle.tsv_text.specs.declared.fault.TextFault.TheVariants as text
 use Rattle.field_texts.specs.Faults.{IsFieldFault}
-use Rattle.field_texts.specs.Syntax.{IsField, IsNumber, Shape, shape_of}
-use Rattle.scalar_texts.specs.Answer.{Agrees, IsNumericAnswer, IsScalarAnswer, IsTextAnswer, is_null, null_answer, state_answer}
+use Rattle.field_texts.specs.Syntax.{IsField, IsNumber, FieldForm, form_of}
+use Rattle.scalar_texts.specs.Answer.{Agrees, IsNumericAnswer, IsScalarAnswer, IsTextAnswer, is_null_text, null_answer, state_answer}
 use Rattle.scalar_texts.specs.Numbers.{number_value}
 use Rattle.scalar_texts.specs.States.{ReadsStates}
 use Rattle.scalar_texts.specs.declared.fault.FieldFault.{FieldFault}
 use Rattle.scalar_texts.specs.declared.fault.FieldFault.TheVariants.{NotNumber, OutOfRange, Text, BadArray, BadMap, NotNullable, NotHex, BadState, OutOfMemory}
-use Rattle.tsv_values.specs.Answer.{IsArrayAnswer, IsFieldAnswer, IsFilledAnswer, IsMapAnswer, IsSameAnswer, IsTold}
+use Rattle.tsv_values.specs.Answer.{IsArrayAnswer, IsFieldAnswer, IsFilledAnswer, IsMapAnswer, IsSameField, IsTold}
 use Rattle.tsv_values.specs.Elements.{FieldSays, Said, ranged}
 use Rattle.tsv_values.specs.OneAnswer.{OneFieldAnswer}
 use Rattle.tsv_values.specs.proving.Steps.{after_spaces}
@@ -44,7 +44,7 @@ told_so P Q f (Err (NotHex at)) h = f _ h
 told_so P Q f (Err (BadState g)) h = f _ h
 
 -- where one thing alone may be told, two answers are one
-one_told : (P : Said → Type 0) → ((a b : Said) → P a → P b → a ≡ b) → (one other : Answer) → IsTold P one → IsTold P other → IsSameAnswer one other
+one_told : (P : Said → Type 0) → ((a b : Said) → P a → P b → a ≡ b) → (one other : Answer) → IsTold P one → IsTold P other → IsSameField one other
 one_told P only one other h g = told_so P (λ a. IsTold (λ b. a ≡ b) other) (λ a x. told_so P (λ b. a ≡ b) (λ b y. only a b x y) other g) one h
 
 agreed : (said : Said) (answer : Answer) → Agrees said answer → IsTold (λ other. said ≡ other) answer
@@ -59,7 +59,7 @@ agreed said (Err NotNullable) h = h
 agreed said (Err (NotHex at)) h = h
 agreed said (Err (BadState f)) h = h
 
-agreed_same : (said : Said) (one other : Answer) → Agrees said one → Agrees said other → IsSameAnswer one other
+agreed_same : (said : Said) (one other : Answer) → Agrees said one → Agrees said other → IsSameField one other
 agreed_same said one other h g = one_told (λ s. said ≡ s) (λ a b x y. sym x ∙ y) one other (agreed said one h) (agreed said other g)
 
 -- ---- numbers
@@ -85,7 +85,7 @@ one_number fits field a b (inr h) (inr g) = h.1 ∙ sym g.1
 one_number fits field a b (inl h) (inr g) = absurd (g.0 h.0)
 one_number fits field a b (inr h) (inl g) = absurd (h.0 g.0)
 
-numeric_same : (fits : ℤ → Bool) (field : List ℕ) (one other : Answer) → IsNumericAnswer fits field one → IsNumericAnswer fits field other → IsSameAnswer one other
+numeric_same : (fits : ℤ → Bool) (field : List ℕ) (one other : Answer) → IsNumericAnswer fits field one → IsNumericAnswer fits field other → IsSameField one other
 numeric_same fits field one other h g = one_told (NumberTold fits field) (one_number fits field) one other (number_told fits field one h) (number_told fits field other g)
 
 -- ---- strings
@@ -121,7 +121,7 @@ text_told field (Err NotNullable) h = absurd h
 text_told field (Err (NotHex at)) h = absurd h
 text_told field (Err (BadState f)) h = absurd h
 
-same_escapes : (u w : Result (List ℕ) TextFault) → escapes.IsSameAnswer u w → (u ≡ Err text.OutOfMemory → ⊥) → (w ≡ Err text.OutOfMemory → ⊥) → u ≡ w
+same_escapes : (u w : Result (List ℕ) TextFault) → escapes.IsSameUnescaped u w → (u ≡ Err text.OutOfMemory → ⊥) → (w ≡ Err text.OutOfMemory → ⊥) → u ≡ w
 same_escapes (Err text.OutOfMemory) w e n m = absurd (n refl)
 same_escapes (Ok a) (Ok b) e n m = e
 same_escapes (Ok a) (Err (text.LoneBackslash at)) e n m = e
@@ -136,7 +136,7 @@ same_escapes (Err (text.BadHex at)) (Err (text.LoneBackslash to)) e n m = e
 same_escapes (Err (text.BadHex at)) (Err (text.BadHex to)) e n m = e
 same_escapes (Err (text.BadHex at)) (Err text.OutOfMemory) e n m = absurd (m refl)
 
-text_same : OneText → (field : List ℕ) (one other : Answer) → IsTextAnswer field one → IsTextAnswer field other → IsSameAnswer one other
+text_same : OneText → (field : List ℕ) (one other : Answer) → IsTextAnswer field one → IsTextAnswer field other → IsSameField one other
 text_same law field one other h g =
     one_told (TextTold field) (λ a b x y. x.3 ∙ ap text_said (same_escapes x.0 y.0 (law field x.0 y.0 x.2 y.2) x.1 y.1) ∙ sym y.3) one other
     (text_told field one h) (text_told field other g)
@@ -152,10 +152,10 @@ module _ (law : OneText) (reads : ReadsStates) (t : Ty) (field : List ℕ) where
 
   -- the place of a fault of the syntax, or what the text says
   abbrev NestedTold : (ℕ → FieldFault) → Said → Type 0
-  NestedTold bad said = ((at : ℕ) × IsFieldFault (shape_of t) field (Some at) × (said ≡ Err (bad at))) ⊎ FieldSays reads t said field
+  NestedTold bad said = ((at : ℕ) × IsFieldFault (form_of t) field (Some at) × (said ≡ Err (bad at))) ⊎ FieldSays reads t said field
 
   one_nested : (bad : ℕ → FieldFault) (a b : Said) → NestedTold bad a → NestedTold bad b → a ≡ b
-  one_nested bad a b (inl h) (inl g) = h.2 ∙ ap (λ at. Err (bad at)) (one_place (IsField (shape_of t)) field h.0 g.0 h.1 g.1) ∙ sym g.2
+  one_nested bad a b (inl h) (inl g) = h.2 ∙ ap (λ at. Err (bad at)) (one_place (IsField (form_of t)) field h.0 g.0 h.1 g.1) ∙ sym g.2
   one_nested bad a b (inl h) (inr g) = absurd (h.1.0 tt (field_syntax reads t b field g))
   one_nested bad a b (inr h) (inl g) = absurd (g.1.0 tt (field_syntax reads t a field h))
   one_nested bad a b (inr h) (inr g) = one_said a b h g
@@ -184,16 +184,16 @@ module _ (law : OneText) (reads : ReadsStates) (t : Ty) (field : List ℕ) where
   map_told (Err (NotHex at)) h = inr h
   map_told (Err (BadState f)) h = inr h
 
-  array_same : (one other : Answer) → IsArrayAnswer reads t field one → IsArrayAnswer reads t field other → IsSameAnswer one other
+  array_same : (one other : Answer) → IsArrayAnswer reads t field one → IsArrayAnswer reads t field other → IsSameField one other
   array_same one other h g = one_told (NestedTold BadArray) (one_nested BadArray) one other (array_told one h) (array_told other g)
 
-  map_same : (one other : Answer) → IsMapAnswer reads t field one → IsMapAnswer reads t field other → IsSameAnswer one other
+  map_same : (one other : Answer) → IsMapAnswer reads t field one → IsMapAnswer reads t field other → IsSameField one other
   map_same one other h g = one_told (NestedTold BadMap) (one_nested BadMap) one other (map_told one h) (map_told other g)
 
 -- ---- any field
 
 module _ (law : OneText) (reads : ReadsStates) (field : List ℕ) where
-  scalar_same : (t : Ty) (one other : Answer) → IsScalarAnswer reads t field one → IsScalarAnswer reads t field other → IsSameAnswer one other
+  scalar_same : (t : Ty) (one other : Answer) → IsScalarAnswer reads t field one → IsScalarAnswer reads t field other → IsSameField one other
   scalar_same (Whole n) one other h g = numeric_same (fits_bits n) field one other h g
   scalar_same (Signed w) one other h g = numeric_same (fits_width w) field one other h g
   scalar_same Str one other h g = text_same law field one other h g
@@ -202,7 +202,7 @@ module _ (law : OneText) (reads : ReadsStates) (field : List ℕ) where
   scalar_same (Arr t) one other h g = absurd h
   scalar_same (MapTy k t) one other h g = absurd h
 
-  filled_same : (t : Ty) (one other : Answer) → IsFilledAnswer reads t field one → IsFilledAnswer reads t field other → IsSameAnswer one other
+  filled_same : (t : Ty) (one other : Answer) → IsFilledAnswer reads t field one → IsFilledAnswer reads t field other → IsSameField one other
   filled_same (Whole n) one other h g = scalar_same (Whole n) one other h g
   filled_same (Signed w) one other h g = scalar_same (Signed w) one other h g
   filled_same Str one other h g = scalar_same Str one other h g
@@ -215,9 +215,9 @@ module _ (law : OneText) (reads : ReadsStates) (field : List ℕ) where
   by_null true A B C D E f k h g = f h g
   by_null false A B C D E f k h g = k h g
 
-  field_same : (t : Ty) (one other : Answer) → IsFieldAnswer reads t field one → IsFieldAnswer reads t field other → IsSameAnswer one other
+  field_same : (t : Ty) (one other : Answer) → IsFieldAnswer reads t field one → IsFieldAnswer reads t field other → IsSameField one other
   field_same t one other h g =
-      by_null (is_null field) (Agrees (null_answer t) one) (IsFilledAnswer reads t field one) (Agrees (null_answer t) other) (IsFilledAnswer reads t field other) (IsSameAnswer one other)
+      by_null (is_null_text field) (Agrees (null_answer t) one) (IsFilledAnswer reads t field one) (Agrees (null_answer t) other) (IsFilledAnswer reads t field other) (IsSameField one other)
       (agreed_same (null_answer t) one other) (filled_same t one other) h g
 
 pub one_field_answer : OneText → OneFieldAnswer

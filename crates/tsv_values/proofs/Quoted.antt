@@ -7,7 +7,7 @@ use Rattle.agg_terms.specs.Chains.{Ty}
 use Rattle.agg_terms.specs.Values as family
 use Rattle.value_types.specs.Folds.{value_of}
 use Rattle.value_types.specs.declared.value.Value.{Value}
-use Rattle.tsv_text.specs.Escapes.{Piece, pieces_then, IsUnescaped, IsSameAnswer}
+use Rattle.tsv_text.specs.Escapes.{Piece, pieces_then, IsUnescaped, IsSameUnescaped}
 use Rattle.tsv_text.specs.declared.fault.TextFault.{TextFault}
 use Rattle.tsv_text.specs.declared.fault.TextFault.TheVariants as text
 use Rattle.field_texts.specs.Syntax.{closed_text}
@@ -22,7 +22,7 @@ use Rattle.tsv_values.proofs.Closing.{behind_pieces, closed-append, fit_pieces, 
 use Rattle.tsv_values.proofs.Fronts.{refused_by}
 
 abbrev pub OneText : Type 0
-OneText = (field : List ℕ) (one other : Result (List ℕ) TextFault) → IsUnescaped field one → IsUnescaped field other → IsSameAnswer one other
+OneText = (field : List ℕ) (one other : Result (List ℕ) TextFault) → IsUnescaped field one → IsUnescaped field other → IsSameUnescaped one other
 
 pub some_same : (a b : List ℕ) → (let o : Option (List ℕ) = Some a in o) ≡ Some b → a ≡ b
 some_same a b e = cc
@@ -93,10 +93,10 @@ module _ (meaning : List ℕ → Said) where
         let same : bytes ≡ x.0 = ok_same bytes x.0 (one inside (Ok bytes) (Ok x.0) u x.1) in
         x.2 ∙ ap meaning (sym same) ∙ e)
 
-    no_lone : (at : ℕ) (bytes : List ℕ) → IsSameAnswer (Err (text.LoneBackslash at)) (Ok bytes) → ⊥
+    no_lone : (at : ℕ) (bytes : List ℕ) → IsSameUnescaped (Err (text.LoneBackslash at)) (Ok bytes) → ⊥
     no_lone at bytes e = cc
 
-    no_bad : (at : ℕ) (bytes : List ℕ) → IsSameAnswer (Err (text.BadHex at)) (Ok bytes) → ⊥
+    no_bad : (at : ℕ) (bytes : List ℕ) → IsSameUnescaped (Err (text.BadHex at)) (Ok bytes) → ⊥
     no_bad at bytes e = cc
 
     pub quoted_lone : (at : ℕ) → IsUnescaped inside (Err (text.LoneBackslash at)) → IsMissing (QuotedSays meaning) (39 ∷ line) Nothing

@@ -20,7 +20,7 @@ use Rattle.value_types.specs.Folds.{value_of}
 use Rattle.tsv_text.specs.Escapes.{escaped, escaped_byte, hex_value, is_escaped, letter_of}
 use Rattle.tsv_text.specs.Escapes.{IsUnescaped}
 use Rattle.field_texts.specs.Syntax.{AreDigits, IsDigits, IsNumber}
-use Rattle.scalar_texts.specs.Answer.{Agrees, IsScalar, IsScalarAnswer, IsNumericAnswer, is_null, state_answer}
+use Rattle.scalar_texts.specs.Answer.{Agrees, IsScalar, IsScalarAnswer, IsNumericAnswer, is_null_text, state_answer}
 use Rattle.scalar_texts.specs.Hex.{hex_bytes, hex_fault, is_lower_hex, is_not_lower_hex, odd_at}
 use Rattle.scalar_texts.specs.Numbers.{number_value, split_sign}
 use Rattle.tsv_values.specs.ReadBack.{EachState, HasWidth, IsReadBack}
@@ -30,12 +30,12 @@ use Rattle.scalar_texts.proofs.Digits.{some_digits}
 
 -- ---- what isn't `\N`
 
-pub not_null : (b : ℕ) (t : List ℕ) → eqb b 92 ≡ false → is_null (b ∷ t) ≡ false
+pub not_null : (b : ℕ) (t : List ℕ) → eqb b 92 ≡ false → is_null_text (b ∷ t) ≡ false
 not_null b [] e = refl
 not_null b (c ∷ []) e = rw e refl
 not_null b (c ∷ d ∷ t) e = refl
 
-not_null_second : (b c : ℕ) (t : List ℕ) → eqb c 78 ≡ false → is_null (b ∷ c ∷ t) ≡ false
+not_null_second : (b c : ℕ) (t : List ℕ) → eqb c 78 ≡ false → is_null_text (b ∷ c ∷ t) ≡ false
 not_null_second b c [] e = right_false (eqb b 92) (eqb c 78) e
   where
     right_false : (a b : Bool) → b ≡ false → (a && b) ≡ false
@@ -55,7 +55,7 @@ decimal_back n lt = let d = decimal_is_IsNumeral n lt in (some_digits (decimal n
 not_eq : (a b : ℕ) → b < a → eqb a b ≡ false
 not_eq a b lt = grind (arith, nat_tests)
 
-unsigned_text : (ds : List ℕ) → IsDigits ds → IsNumber ds × (split_sign ds ≡ (let s : Bool × List ℕ = (false, ds) in s)) × (is_null ds ≡ false)
+unsigned_text : (ds : List ℕ) → IsDigits ds → IsNumber ds × (split_sign ds ≡ (let s : Bool × List ℕ = (false, ds) in s)) × (is_null_text ds ≡ false)
 unsigned_text [] d = absurd d
 unsigned_text (c ∷ cs) d =
     let m : eqb c 45 ≡ false = not_eq c 45 (omega (arith, d.0.0)) in
@@ -67,7 +67,7 @@ unsigned_text (c ∷ cs) d =
 pub record NumberBack (z : ℤ) : Type 0 where
   pub number : IsNumber (signed_decimal z)
   pub value : number_value (signed_decimal z) ≡ z
-  pub filled : is_null (signed_decimal z) ≡ false
+  pub filled : is_null_text (signed_decimal z) ≡ false
 
 positive_back : (n : ℕ) → n < 2 ^ 64 → NumberBack (pos n)
 positive_back n lt =
@@ -88,11 +88,11 @@ letter_not_n b e = grind (arith, nat_tests, e)
 pub slash_escaped : (b : ℕ) → is_escaped b ≡ false → eqb b 92 ≡ false
 slash_escaped b e = grind (arith, nat_tests, e)
 
-string_filled : (bytes : List ℕ) → is_null (escaped bytes) ≡ false
+string_filled : (bytes : List ℕ) → is_null_text (escaped bytes) ≡ false
 string_filled [] = refl
 string_filled (b ∷ bytes) = by_test (is_escaped b) refl
   where
-    by_test : (t : Bool) → is_escaped b ≡ t → is_null (escaped_byte b ++ escaped bytes) ≡ false
+    by_test : (t : Bool) → is_escaped b ≡ t → is_null_text (escaped_byte b ++ escaped bytes) ≡ false
     by_test true e = rw e (not_null_second 92 (letter_of b) (escaped bytes) (letter_not_n b e))
     by_test false e = rw e (not_null b (escaped bytes) (slash_escaped b e))
 
@@ -150,7 +150,7 @@ no_position xs h = rw (lower_length xs h, same_not_below (length xs)) refl
 even_length : (n : ℕ) → odd_at (2 * n) ≡ None
 even_length n = let e : (2 * n) % 2 ≡ 0 = omega arith in rw e refl
 
-pub hex_filled : (bs : List ℕ) → Bytes bs → is_null (encode_lower bs) ≡ false
+pub hex_filled : (bs : List ℕ) → Bytes bs → is_null_text (encode_lower bs) ≡ false
 unfolding encode_with
 hex_filled [] h = refl
 hex_filled (b ∷ bs) h =
@@ -166,7 +166,7 @@ hex_well bs h = rw (no_position (encode_lower bs) (hex_back bs h).1, length-enco
 -- ---- every scalar
 
 numeric : (fits : ℤ → Bool) (z : ℤ) (value : Value) → NumberBack z → fits z ≡ true → value_of value ≡ family.Num z
-    → (is_null (signed_decimal z) ≡ false) × IsNumericAnswer fits (signed_decimal z) (Ok value)
+    → (is_null_text (signed_decimal z) ≡ false) × IsNumericAnswer fits (signed_decimal z) (Ok value)
 numeric fits z value back h e = (back.filled, (back.number, subst (λ y. fits y ≡ true) (sym back.value) h, e ∙ ap family.Num (sym back.value)))
 
 pub whole_back : (n : ℕ) (z : ℤ) → 2 ^ n ≤ 2 ^ 64 → fits_bits n z ≡ true → NumberBack z
@@ -178,10 +178,10 @@ signed_back w (negsuc k) le h = let s : k < 2 ^ hbits w = ((fitting.width w (neg
 
 module _ (reads : ReadsStates) (writes : WritesStates) (round_trip : (bytes : List ℕ) → IsUnescaped (escaped bytes) (Ok bytes)) (value : Value) where
   abbrev Back : terms.Ty → family.Value → Type 0
-  Back t v = (is_null (field_text writes t v) ≡ false) × IsScalarAnswer reads t (field_text writes t v) (Ok value)
+  Back t v = (is_null_text (field_text writes t v) ≡ false) × IsScalarAnswer reads t (field_text writes t v) (Ok value)
 
   cell_back : (t : terms.Ty) (tree : family.Tree) → IsReadBack reads writes t tree → value_of value ≡ family.Cell tree
-      → (is_null (encode_lower (writes t tree)) ≡ false) × Agrees (state_answer reads t (encode_lower (writes t tree))) (Ok value)
+      → (is_null_text (encode_lower (writes t tree)) ≡ false) × Agrees (state_answer reads t (encode_lower (writes t tree))) (Ok value)
   cell_back t tree state e =
       let bytes = as_bytes (writes t tree) state.bytes in
       (hex_filled (writes t tree) bytes, rw (hex_well (writes t tree) bytes, (hex_back (writes t tree) bytes).0, state.same) (ap Ok (sym e)))

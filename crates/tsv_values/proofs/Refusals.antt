@@ -10,7 +10,7 @@ use Rattle.value_types.specs.declared.ty.Ty.TheVariants as ty
 use Rattle.value_types.specs.Folds.{ty_of}
 use Rattle.value_types.proofs.FoldLaws.{ty_of-Arr, ty_of-Map}
 use Rattle.field_texts.specs.Faults.{IsFieldFault}
-use Rattle.field_texts.specs.Syntax.{shape_of}
+use Rattle.field_texts.specs.Syntax.{form_of}
 use Rattle.scalar_texts.specs.Answer.{cell_of, not_hex_or}
 use Rattle.scalar_texts.specs.Hex.{hex_bytes, hex_fault}
 use Rattle.scalar_texts.specs.States.{ReadsStates}
@@ -112,15 +112,15 @@ module _ (reads : ReadsStates) where
   map_told t field (BadMap at) h = absurd (field_fault t (BadMap at) field h)
   map_told t field fault h = h
 
-  pub bad_array : (t of : Ty) (field : List ℕ) (at : ℕ) → t ≡ ty.Arr of → IsFieldFault (shape_of (ty_of t)) field (Some at) → IsFilledAnswer reads (ty_of t) field (Err (BadArray at))
+  pub bad_array : (t of : Ty) (field : List ℕ) (at : ℕ) → t ≡ ty.Arr of → IsFieldFault (form_of (ty_of t)) field (Some at) → IsFilledAnswer reads (ty_of t) field (Err (BadArray at))
   bad_array t of field at e h =
       let is : ty_of t ≡ terms.Arr (ty_of of) = ap ty_of e ∙ ty_of-Arr of in
-      subst (λ u. IsFilledAnswer reads u field (Err (BadArray at))) (sym is) (subst (λ u. IsFieldFault (shape_of u) field (Some at)) is h)
+      subst (λ u. IsFilledAnswer reads u field (Err (BadArray at))) (sym is) (subst (λ u. IsFieldFault (form_of u) field (Some at)) is h)
 
-  pub bad_map : (t k of : Ty) (field : List ℕ) (at : ℕ) → t ≡ ty.Map k of → IsFieldFault (shape_of (ty_of t)) field (Some at) → IsFilledAnswer reads (ty_of t) field (Err (BadMap at))
+  pub bad_map : (t k of : Ty) (field : List ℕ) (at : ℕ) → t ≡ ty.Map k of → IsFieldFault (form_of (ty_of t)) field (Some at) → IsFilledAnswer reads (ty_of t) field (Err (BadMap at))
   bad_map t k of field at e h =
       let is : ty_of t ≡ terms.MapTy (ty_of k) (ty_of of) = ap ty_of e ∙ ty_of-Map k of in
-      subst (λ u. IsFilledAnswer reads u field (Err (BadMap at))) (sym is) (subst (λ u. IsFieldFault (shape_of u) field (Some at)) is h)
+      subst (λ u. IsFilledAnswer reads u field (Err (BadMap at))) (sym is) (subst (λ u. IsFieldFault (form_of u) field (Some at)) is h)
 
   pub array_fault : (t of : Ty) (field : List ℕ) (fault : FieldFault) → t ≡ ty.Arr of → IsTold (λ said. FieldSays reads (ty_of t) said field) (Err fault) → IsFilledAnswer reads (ty_of t) field (Err fault)
   array_fault t of field fault e h =

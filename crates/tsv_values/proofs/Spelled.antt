@@ -5,7 +5,7 @@ use Rattle.agg_terms.specs.Chains.{Ty, Whole, Signed, Str, Arr, MapTy, Nullable,
 use Rattle.agg_terms.specs.Fitting.{fits_bits, fits_width}
 use Rattle.agg_terms.specs.Values as family
 use Rattle.tsv_text.specs.Escapes.{pieces_bytes}
-use Rattle.field_texts.specs.Syntax.{IsQuoted, IsSpaces, MoreOf, Opened, SyntaxOf, Token, shape_of}
+use Rattle.field_texts.specs.Syntax.{IsQuoted, IsSpaces, MoreOf, Opened, SyntaxOf, Token, form_of}
 use Rattle.scalar_texts.specs.Answer.{state_answer}
 use Rattle.scalar_texts.specs.Numbers.{number_value}
 use Rattle.scalar_texts.specs.States.{ReadsStates}
@@ -70,7 +70,7 @@ module _ (reads : ReadsStates) where
   number_says : (t : Ty) (said : Said) (text front rest : List ℕ) → IsSpaces front → ElementSays reads t said rest → text ≡ front ++ rest → (said : Said) × Spaced (ElementSays reads t) said text
   number_says t said text front rest sp h e = (said, record { front = front; rest = rest; first = sp; second = h; whole = e })
 
-  pub element_says : (t : Ty) (text : List ℕ) → SyntaxOf (shape_of t) text → (said : Said) × Spaced (ElementSays reads t) said text
+  pub element_says : (t : Ty) (text : List ℕ) → SyntaxOf (form_of t) text → (said : Said) × Spaced (ElementSays reads t) said text
   element_says (Whole n) text h = number_says (Whole n) (ranged (fits_bits n) (number_value h.rest)) text h.front h.rest h.first (h.second, refl) h.whole
   element_says (Signed w) text h = number_says (Signed w) (ranged (fits_width w) (number_value h.rest)) text h.front h.rest h.first (h.second, refl) h.whole
   element_says Str text h = quoted_says (λ bytes. Ok (family.Bytes bytes)) text h
@@ -80,14 +80,14 @@ module _ (reads : ReadsStates) where
       (s.0, record { front = s.1.front; rest = s.1.rest; first = s.1.first; second = inl s.1.second; whole = s.1.whole })
   element_says (Nullable t) text (inr h) = (Ok family.Nil, record { front = h.front; rest = h.rest; first = h.first; second = inr (h.second, refl); whole = h.whole })
   element_says (Arr t) text h =
-      let parts = opened_says (SyntaxOf (shape_of t)) (ElementSays reads t) (element_says t) 93 h.rest h.second in
+      let parts = opened_says (SyntaxOf (form_of t)) (ElementSays reads t) (element_says t) 93 h.rest h.second in
       let said = array_of (all_of parts.0) in
       (said, behind_token 91 (ArraySays (ElementSays reads t) said) text (record { front = h.front; rest = h.rest; first = h.first; second = (all_of parts.0, (parts.0, parts.1, refl), refl); whole = h.whole }))
   element_says (MapTy k t) text h =
-      let parts = opened_says (Then (SyntaxOf (shape_of k)) (Then (Token 58) (SyntaxOf (shape_of t)))) (EntrySays (ElementSays reads k) (ElementSays reads t))
-      (entry_says (SyntaxOf (shape_of k)) (SyntaxOf (shape_of t)) (ElementSays reads k) (ElementSays reads t) (element_says k) (element_says t)) 125 h.rest h.second in
+      let parts = opened_says (Then (SyntaxOf (form_of k)) (Then (Token 58) (SyntaxOf (form_of t)))) (EntrySays (ElementSays reads k) (ElementSays reads t))
+      (entry_says (SyntaxOf (form_of k)) (SyntaxOf (form_of t)) (ElementSays reads k) (ElementSays reads t) (element_says k) (element_says t)) 125 h.rest h.second in
       let said = map_of (all_of parts.0) in
       (said, behind_token 123 (MapSays (ElementSays reads k) (ElementSays reads t) said) text (record { front = h.front; rest = h.rest; first = h.first; second = (all_of parts.0, (parts.0, parts.1, refl), refl); whole = h.whole }))
 
-  pub field_says : (t : Ty) (field : List ℕ) → Then (SyntaxOf (shape_of t)) IsSpaces field → (said : Said) × FieldSays reads t said field
+  pub field_says : (t : Ty) (field : List ℕ) → Then (SyntaxOf (form_of t)) IsSpaces field → (said : Said) × FieldSays reads t said field
   field_says t field h = let s = element_says t h.front h.first in (s.0, record { front = h.front; rest = h.rest; first = s.1; second = h.second; whole = h.whole })

@@ -3,7 +3,7 @@ use Rattle.std.proofs.Common.{◌≡◌, ℕ, List, [], ◌∷◌, ◌++◌, len
 use Rattle.first_fault.specs.Grammar.{Then}
 use Rattle.agg_terms.specs.Chains.{Ty, Whole, Signed, Str, Arr, MapTy, Nullable, StateOf}
 use Rattle.agg_terms.specs.Values as family
-use Rattle.field_texts.specs.Syntax.{IsField, IsQuoted, IsSpaces, MoreOf, Opened, SyntaxOf, Token, shape_of}
+use Rattle.field_texts.specs.Syntax.{IsField, IsQuoted, IsSpaces, MoreOf, Opened, SyntaxOf, Token, form_of}
 use Rattle.scalar_texts.specs.Answer.{state_answer}
 use Rattle.scalar_texts.specs.States.{ReadsStates}
 use Rattle.scalar_texts.specs.declared.fault.FieldFault.{FieldFault}
@@ -58,7 +58,7 @@ entry_of K L key item f g x text h =
     }
 
 module _ (reads : ReadsStates) where
-  element_syntax : (t : Ty) (said : Said) (text : List ℕ) → Spaced (ElementSays reads t) said text → SyntaxOf (shape_of t) text
+  element_syntax : (t : Ty) (said : Said) (text : List ℕ) → Spaced (ElementSays reads t) said text → SyntaxOf (form_of t) text
   element_syntax (Whole n) said text h = record { front = h.front; rest = h.rest; first = h.first; second = h.second.0; whole = h.whole }
   element_syntax (Signed w) said text h = record { front = h.front; rest = h.rest; first = h.first; second = h.second.0; whole = h.whole }
   element_syntax Str said text h = quoted_syntax (λ bytes. Ok (family.Bytes bytes)) said text h
@@ -68,14 +68,14 @@ module _ (reads : ReadsStates) where
     | inr g ↦ inr (record { front = h.front; rest = h.rest; first = h.first; second = g.0; whole = h.whole })
   ]
   element_syntax (Arr t) said text h =
-      token_of 91 _ (Opened (SyntaxOf (shape_of t)) 93)
-      (λ u g. opened_of (SyntaxOf (shape_of t)) (ElementSays reads t) (element_syntax t) 93 g.1.0 u g.1.1)
+      token_of 91 _ (Opened (SyntaxOf (form_of t)) 93)
+      (λ u g. opened_of (SyntaxOf (form_of t)) (ElementSays reads t) (element_syntax t) 93 g.1.0 u g.1.1)
       text h.front h.rest h.first h.second h.whole
   element_syntax (MapTy k t) said text h =
-      token_of 123 _ (Opened (Then (SyntaxOf (shape_of k)) (Then (Token 58) (SyntaxOf (shape_of t)))) 125)
-      (λ u g. opened_of (Then (SyntaxOf (shape_of k)) (Then (Token 58) (SyntaxOf (shape_of t)))) (EntrySays (ElementSays reads k) (ElementSays reads t))
-      (entry_of (SyntaxOf (shape_of k)) (SyntaxOf (shape_of t)) (ElementSays reads k) (ElementSays reads t) (element_syntax k) (element_syntax t)) 125 g.1.0 u g.1.1)
+      token_of 123 _ (Opened (Then (SyntaxOf (form_of k)) (Then (Token 58) (SyntaxOf (form_of t)))) 125)
+      (λ u g. opened_of (Then (SyntaxOf (form_of k)) (Then (Token 58) (SyntaxOf (form_of t)))) (EntrySays (ElementSays reads k) (ElementSays reads t))
+      (entry_of (SyntaxOf (form_of k)) (SyntaxOf (form_of t)) (ElementSays reads k) (ElementSays reads t) (element_syntax k) (element_syntax t)) 125 g.1.0 u g.1.1)
       text h.front h.rest h.first h.second h.whole
 
-  pub field_syntax : (t : Ty) (said : Said) (field : List ℕ) → FieldSays reads t said field → IsField (shape_of t) field tt
+  pub field_syntax : (t : Ty) (said : Said) (field : List ℕ) → FieldSays reads t said field → IsField (form_of t) field tt
   field_syntax t said field h = record { front = h.front; rest = h.rest; first = element_syntax t said h.front h.first; second = h.second; whole = h.whole }

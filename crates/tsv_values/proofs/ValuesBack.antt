@@ -8,7 +8,7 @@ use Rattle.agg_terms.specs.Fitting.{fits_value, is_nil}
 use Rattle.value_types.specs.Folds.{value_of}
 use Rattle.value_types.specs.declared.value.Value.{Value}
 use Rattle.tsv_text.specs.Escapes.{escaped, IsUnescaped}
-use Rattle.scalar_texts.specs.Answer.{Agrees, is_null, null_answer}
+use Rattle.scalar_texts.specs.Answer.{Agrees, is_null_text, null_answer}
 use Rattle.scalar_texts.specs.States.{AllStates, ReadsStates}
 use Rattle.tsv_values.specs.Answer.{IsFieldAnswer, IsFilledAnswer}
 use Rattle.tsv_values.specs.Elements.{ElementSays, FieldSays}
@@ -22,7 +22,7 @@ module _ (reads : ReadsStates) (writes : WritesStates) (round_trip : (bytes : Li
   States = EachState (IsReadBack reads writes)
 
   abbrev Filled : terms.Ty → family.Value → Type 0
-  Filled t v = (is_null (field_text writes t v) ≡ false) × IsFilledAnswer reads t (field_text writes t v) (Ok value)
+  Filled t v = (is_null_text (field_text writes t v) ≡ false) × IsFilledAnswer reads t (field_text writes t v) (Ok value)
 
   whole_text : (t : terms.Ty) (v : family.Value) (text : List ℕ) → value_of value ≡ v → ElementSays reads t (Ok v) text → FieldSays reads t (Ok (value_of value)) text
   whole_text t v text e h =

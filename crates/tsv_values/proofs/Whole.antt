@@ -2,7 +2,7 @@
 use Rattle.std.proofs.Common.{◌≡◌, ℕ, List, [], ◌∷◌, Err, refl, sym, ap, subst, ◌∙◌}
 use Rattle.first_fault.specs.Grammar.{Then}
 use Rattle.agg_terms.specs.Chains.{Ty}
-use Rattle.field_texts.specs.Syntax.{IsSpaces, SyntaxOf, shape_of}
+use Rattle.field_texts.specs.Syntax.{IsSpaces, SyntaxOf, form_of}
 use Rattle.scalar_texts.specs.States.{ReadsStates}
 use Rattle.scalar_texts.specs.declared.fault.FieldFault.{FieldFault}
 use Rattle.scalar_texts.specs.declared.fault.FieldFault.TheVariants.{NotNumber, OutOfRange, Text, BadArray, BadMap, NotNullable, NotHex, BadState, OutOfMemory}
@@ -53,10 +53,10 @@ module _ (reads : ReadsStates) (t : Ty) (field : List ℕ) where
   whole_missing (Refused (NotHex at)) h = λ said told. let a = whole_ahead said told in h said a.0 a.2
   whole_missing (Refused (BadState f)) h = λ said told. let a = whole_ahead said told in h said a.0 a.2
 
-  told_as : (fault : FieldFault) → ((said : Said) → Told said → said ≡ Err fault) → Then (SyntaxOf (shape_of t)) IsSpaces field → Told (Err fault)
+  told_as : (fault : FieldFault) → ((said : Said) → Told said → said ≡ Err fault) → Then (SyntaxOf (form_of t)) IsSpaces field → Told (Err fault)
   told_as fault f syntax = let s = field_says reads t field syntax in subst Told (f s.0 s.1) s.1
 
-  pub refused_told : (fault : FieldFault) → IsWholeRead Told (Err (Refused fault)) → Then (SyntaxOf (shape_of t)) IsSpaces field → IsTold Told (Err fault)
+  pub refused_told : (fault : FieldFault) → IsWholeRead Told (Err (Refused fault)) → Then (SyntaxOf (form_of t)) IsSpaces field → IsTold Told (Err fault)
   refused_told OutOfMemory f syntax = tt
   refused_told NotNumber f syntax = told_as NotNumber f syntax
   refused_told OutOfRange f syntax = told_as OutOfRange f syntax
@@ -67,5 +67,5 @@ module _ (reads : ReadsStates) (t : Ty) (field : List ℕ) where
   refused_told (NotHex at) f syntax = told_as (NotHex at) f syntax
   refused_told (BadState x) f syntax = told_as (BadState x) f syntax
 
-  pub nothing_told : ((said : Said) → Told said → ⊥) → Then (SyntaxOf (shape_of t)) IsSpaces field → ⊥
+  pub nothing_told : ((said : Said) → Told said → ⊥) → Then (SyntaxOf (form_of t)) IsSpaces field → ⊥
   nothing_told f syntax = let s = field_says reads t field syntax in f s.0 s.1

@@ -1,6 +1,6 @@
 //! What the laws of fields are for.
 ghost use Rattle.scalar_texts.specs.States.{AllStates};
-ghost use Rattle.tsv_values.specs.Answer.{IsSameAnswer};
+ghost use Rattle.tsv_values.specs.Answer.{IsSameField};
 ghost use Rattle.value_types.specs.Folds.{ty_of};
 
 use std::alloc::Global;
@@ -15,7 +15,7 @@ pub fn read_twice<R: StateReader>(
     field: &[u8],
 ) -> (Result<Value, FieldFault>, Result<Value, FieldFault>)
     requires { AllStates (R.takes reader.now) (ty_of ty.now) }
-    ensures { IsSameAnswer result.0 result.1 }
+    ensures { IsSameField result.0 result.1 }
 {
     law_one_field_answer();
     let first = read_value(alloc, reader, ty, field);

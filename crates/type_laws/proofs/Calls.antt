@@ -28,18 +28,18 @@ use Rattle.type_laws.proofs.Params.{chain_read}
 snoc : (ss outer : List Suffix) (s : Suffix) → reverse ss ≡ outer → reverse (ss ++ s ∷ []) ≡ s ∷ outer
 snoc ss outer s h = reverse-append ss (s ∷ []) ∙ ap (λ z. s ∷ z) h
 
-outermost_first : (c : Chain) → reverse (printed.suffixes_of c) ≡ suffixes_of c
+outermost_first : (c : Chain) → reverse (printed.written_suffixes c) ≡ suffixes_of c
 outermost_first (terms.Of f) = refl
-outermost_first (terms.If c) = snoc (printed.suffixes_of c) (suffixes_of c) Suffix.If (outermost_first c)
-outermost_first (terms.Array c) = snoc (printed.suffixes_of c) (suffixes_of c) Suffix.Array (outermost_first c)
-outermost_first (terms.MapOf c) = snoc (printed.suffixes_of c) (suffixes_of c) Suffix.MapOf (outermost_first c)
-outermost_first (terms.ForEach c) = snoc (printed.suffixes_of c) (suffixes_of c) Suffix.ForEach (outermost_first c)
-outermost_first (terms.OrNull c) = snoc (printed.suffixes_of c) (suffixes_of c) Suffix.OrNull (outermost_first c)
-outermost_first (terms.OrDefault c) = snoc (printed.suffixes_of c) (suffixes_of c) Suffix.OrDefault (outermost_first c)
-outermost_first (terms.Distinct c) = snoc (printed.suffixes_of c) (suffixes_of c) Suffix.Distinct (outermost_first c)
-outermost_first (terms.State c) = snoc (printed.suffixes_of c) (suffixes_of c) Suffix.State (outermost_first c)
-outermost_first (terms.Merge c) = snoc (printed.suffixes_of c) (suffixes_of c) Suffix.Merge (outermost_first c)
-outermost_first (terms.Resample start end step c) = snoc (printed.suffixes_of c) (suffixes_of c) Suffix.Resample (outermost_first c)
+outermost_first (terms.If c) = snoc (printed.written_suffixes c) (suffixes_of c) Suffix.If (outermost_first c)
+outermost_first (terms.Array c) = snoc (printed.written_suffixes c) (suffixes_of c) Suffix.Array (outermost_first c)
+outermost_first (terms.MapOf c) = snoc (printed.written_suffixes c) (suffixes_of c) Suffix.MapOf (outermost_first c)
+outermost_first (terms.ForEach c) = snoc (printed.written_suffixes c) (suffixes_of c) Suffix.ForEach (outermost_first c)
+outermost_first (terms.OrNull c) = snoc (printed.written_suffixes c) (suffixes_of c) Suffix.OrNull (outermost_first c)
+outermost_first (terms.OrDefault c) = snoc (printed.written_suffixes c) (suffixes_of c) Suffix.OrDefault (outermost_first c)
+outermost_first (terms.Distinct c) = snoc (printed.written_suffixes c) (suffixes_of c) Suffix.Distinct (outermost_first c)
+outermost_first (terms.State c) = snoc (printed.written_suffixes c) (suffixes_of c) Suffix.State (outermost_first c)
+outermost_first (terms.Merge c) = snoc (printed.written_suffixes c) (suffixes_of c) Suffix.Merge (outermost_first c)
+outermost_first (terms.Resample start end step c) = snoc (printed.written_suffixes c) (suffixes_of c) Suffix.Resample (outermost_first c)
 
 -- a pattern has 1 to 32 conditions
 some_conditions : (o : Option ℕ) → (1 ≤ pattern_conditions o) × (pattern_conditions o ≤ most_conditions)
@@ -109,7 +109,7 @@ rules_pass c ts h =
 
 call_allowed : (c : Chain) (ts : List Ty) → is_legal c ts ≡ true → allowed pattern_reader (chain_name c) (literals_of c) ts ≡ Ok c
 call_allowed c ts h =
-    ap (λ r. and_then (known_name r) (λ shape. allowed_shape pattern_reader shape (literals_of c) ts)) (read-spelled (leaf_name (function_of c)) (printed.suffixes_of c))
+    ap (λ r. and_then (known_name r) (λ shape. allowed_shape pattern_reader shape (literals_of c) ts)) (read-spelled (leaf_name (function_of c)) (printed.written_suffixes c))
     ∙ ap (rules c ts) (outermost_first c) ∙ rules_pass c ts h
 
 tys_back : (ts : Tys) → tys (tys_list ts) ≡ ts

@@ -2,11 +2,11 @@
 use Rattle.std.proofs.Common.{◌≡◌, ℕ, ◌≤◌, true, List, [], ◌∷◌, ◌++◌, length, map, refl, ap, ◌∙◌, nat_le, ◌&&◌, arith}
 use Rattle.std.specs.List.{list_all}
 use Rattle.std.proofs.lemmas.Bool.{le-leb, leb-true, and_from, and_parts}
-use Rattle.agg_terms.specs.Chains.{Below, BelowOrAt, At, AtOrAbove, Above, PatItem, Cond, Any, PatLink, Next, Gap, Time, Pattern}
+use Rattle.agg_terms.specs.Chains.{PatItem, Cond, Any, PatLink, Next, Gap, Time, Pattern}
 use Rattle.agg_typing.specs.Legal.{is_item, is_link, are_linked, is_pattern}
 use Rattle.pattern_texts.specs.Texts.{Join, next, gap, time, link_of, join_text, more_text, Written, written_text, written_pattern, Spells}
-use Rattle.pattern_texts.specs.Texts as grammar
-use Rattle.type_texts.specs.PatternTexts.{item_text, link_text, items_text, pattern_text}
+use Rattle.type_texts.specs.PatternTexts.{link_text, items_text, pattern_text}
+use Rattle.agg_typing.specs.PatternWords.{item_text}
 use Rattle.type_laws.specs.Patterns.{PatternsReadBack}
 
 abbrev join_of : PatLink → Join
@@ -19,19 +19,11 @@ abbrev joined : List PatItem → List PatLink → List (Join × PatItem)
 joined (item ∷ items) (link ∷ links) = (join_of link, item) ∷ joined items links
 joined items links = []
 
--- both grammars write an item and a link alike
-same_item : (i : PatItem) → grammar.item_text i ≡ item_text i
-same_item (Cond n) = refl
-same_item Any = refl
-
+-- both grammars write a link alike
 same_link : (l : PatLink) → join_text (join_of l) ≡ link_text l
 same_link Next = refl
 same_link Gap = refl
-same_link (Time Below n) = refl
-same_link (Time BelowOrAt n) = refl
-same_link (Time At n) = refl
-same_link (Time AtOrAbove n) = refl
-same_link (Time Above n) = refl
+same_link (Time op n) = refl
 
 link_back : (l : PatLink) → link_of (join_of l) ≡ l
 link_back Next = refl
@@ -40,19 +32,18 @@ link_back (Time op n) = refl
 
 -- linked items, as they are printed and as they are written
 record Joined (item : PatItem) (items : List PatItem) (links : List PatLink) : Type 0 where
-  text : grammar.item_text item ++ more_text (joined items links) 0 ≡ items_text (item ∷ items) links
+  text : item_text item ++ more_text (joined items links) 0 ≡ items_text (item ∷ items) links
   items_are : map (λ (part : Join × PatItem). part.1) (joined items links) ≡ items
   links_are : map (λ (part : Join × PatItem). link_of part.0) (joined items links) ≡ links
 
 linked : (item : PatItem) (items : List PatItem) (links : List PatLink) → are_linked (item ∷ items) links ≡ true → Joined item items links
-linked item [] [] h = record { text = ap (λ t. t ++ []) (same_item item); items_are = refl; links_are = refl }
+linked item [] [] h = record { text = refl; items_are = refl; links_are = refl }
 linked item [] (l ∷ links) h = absurd cc
 linked item (b ∷ items) [] h = absurd cc
 linked item (b ∷ items) (l ∷ links) h =
     let more = linked b items links (and_parts (is_link item l b) (are_linked (b ∷ items) links) h).1 in
     record {
-      text = ap (λ t. t ++ (join_text (join_of l) ++ (grammar.item_text b ++ more_text (joined items links) 0))) (same_item item)
-          ∙ ap (λ t. item_text item ++ (t ++ (grammar.item_text b ++ more_text (joined items links) 0))) (same_link l)
+      text = ap (λ t. item_text item ++ (t ++ (item_text b ++ more_text (joined items links) 0))) (same_link l)
           ∙ ap (λ t. item_text item ++ (link_text l ++ t)) more.text;
       items_are = ap (λ z. b ∷ z) more.items_are;
       links_are = ap (λ k. k ∷ map (λ (part : Join × PatItem). link_of part.0) (joined items links)) (link_back l) ∙ ap (λ z. l ∷ z) more.links_are;

@@ -1,9 +1,9 @@
 -- A printed type is read as that type.
-use Rattle.std.proofs.Common.{◌≡◌, true, not, ◌&&◌, List, [], ◌∷◌, length, map, Result, Ok, Err, inl, inr, refl, sym, ap, subst, ◌∙◌}
-use Rattle.std.specs.Prelude.{◌⊎◌}
+use Rattle.std.proofs.Common.{◌≡◌, true, not, ◌&&◌, length, Result, Ok, Err, refl, sym, ap, subst, ◌∙◌}
 use Rattle.std.proofs.lemmas.Bool.{leb-true, and_parts}
 use Rattle.agg_terms.specs.Chains.{Chain, Ty, Tys, no_tys, a_ty, tys_list}
 use Rattle.agg_terms.specs.Chains as terms
+use Rattle.agg_terms.specs.Widths.{HasWidths, HaveWidths}
 use Rattle.agg_typing.specs.Counts.{takes_count, inside_maps}
 use Rattle.agg_typing.specs.Legal.{suffixes_of, is_formed, is_typed, is_legal, is_basic, is_legal_type, all_legal}
 use Rattle.agg_typing.specs.Parameters.{pattern_conditions}
@@ -11,66 +11,16 @@ use Rattle.agg_typing.specs.Suffixes.{most_suffixes, arguments_reaching}
 use Rattle.agg_typing.specs.States.{is_state_or_merge}
 use Rattle.agg_typing.proofs.Formed.{Formed, formed}
 use Rattle.agg_typing.proofs.Tests.{or_none}
-use Rattle.value_types.specs.declared.ty.Ty.{Ty as Code}
-use Rattle.value_types.specs.declared.ty.Ty.TheOpen.{Ty-F}
-use Rattle.value_types.specs.declared.ty.Ty.TheFolds.{fold-roll-Ty, ind-Ty, map-Ty}
-use Rattle.value_types.specs.Folds.{ty_of, ty_step}
+use Rattle.value_types.specs.Folds.{ty_of}
+use Rattle.value_types.proofs.Images.{wide}
 use Rattle.type_shapes.specs.declared.shape.TypeShape.{TypeShape}
 use Rattle.type_shapes.specs.declared.shape.ShapeFault.{ShapeFault}
-use Rattle.type_shapes.specs.ReadsBack.{shape_in, shapes_in, IsWidth, HasParts, HaveParts, IsShapeUnlessMemory, TypesReadBack}
+use Rattle.type_shapes.specs.ReadsBack.{shape_in, shapes_in, HasParts, HaveParts, IsShapeUnlessMemory, TypesReadBack}
 use Rattle.shape_types.specs.Countable.{IsCountable, AreCountable}
 use Rattle.shape_types.specs.Types.{type_of_shape, types_of_shapes}
 use Rattle.type_laws.specs.Types.{IsTypeUnlessMemory, PrintedTypesAreRead}
 use Rattle.type_laws.proofs.Fitting.{fits_chain, few_literals, few_types}
 use Rattle.type_laws.proofs.Calls.{legal_passes, state_read}
-
--- ---- the numbers of the program's types have 8 to 64 bits
-
-abbrev mutual
-  HasWidths : Ty → Type 0
-  HasWidths (terms.Whole n) = (n ≡ 8) ⊎ ((n ≡ 16) ⊎ ((n ≡ 32) ⊎ (n ≡ 64)))
-  HasWidths (terms.Signed w) = IsWidth w
-  HasWidths terms.Str = Unit {0}
-  HasWidths (terms.Arr t) = HasWidths t
-  HasWidths (terms.MapTy k t) = HasWidths k × HasWidths t
-  HasWidths (terms.Nullable t) = HasWidths t
-  HasWidths (terms.StateOf c ts) = HaveWidths ts
-
-  HaveWidths : Tys → Type 0
-  HaveWidths no_tys = Unit {0}
-  HaveWidths (a_ty t ts) = HasWidths t × HaveWidths ts
-
-abbrev Wide : Code → Type 0
-Wide t = HasWidths (ty_of t)
-
-abbrev WideType : Type 0
-WideType = (t : Code) × Wide t
-
-abbrev bare : Ty-F WideType → Ty-F Code
-bare = map-Ty WideType Code (λ t. t.0)
-
-wide_args : (ts : List WideType) → HaveWidths (terms.tys (map ty_of (map (λ t. t.0) ts)))
-wide_args [] = tt
-wide_args (t ∷ ts) = (t.1, wide_args ts)
-
-wide_layer : (layer : Ty-F WideType) → HasWidths (ty_step (map-Ty Code Ty ty_of (bare layer)))
-wide_layer Ty-F.U8 = inl refl
-wide_layer Ty-F.U16 = inr (inl refl)
-wide_layer Ty-F.U32 = inr (inr (inl refl))
-wide_layer Ty-F.U64 = inr (inr (inr refl))
-wide_layer Ty-F.I8 = tt
-wide_layer Ty-F.I16 = tt
-wide_layer Ty-F.I32 = tt
-wide_layer Ty-F.I64 = tt
-wide_layer Ty-F.Str = tt
-wide_layer (Ty-F.Arr t) = t.1
-wide_layer (Ty-F.Map k t) = (k.1, t.1)
-wide_layer (Ty-F.Nullable t) = t.1
-wide_layer (Ty-F.State c ts) = wide_args ts
-
-wide : (t : Code) → Wide t
-wide = ind-Ty Wide (λ layer parts is.
-    subst HasWidths (sym (fold-roll-Ty Ty ty_step layer ∙ ap (λ z. ty_step (map-Ty Code Ty ty_of z)) (sym is))) (wide_layer parts))
 
 -- ---- legal types, part by part
 

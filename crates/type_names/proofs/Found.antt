@@ -5,7 +5,7 @@ use Rattle.first_fault.specs.Grammar.{Then, InOrder}
 use Rattle.first_fault.proofs.Grammar.{push, lone, regroup}
 use Rattle.first_fault.proofs.Machines.{letter_ok, end_ok}
 use Rattle.line_tokens.specs.Tokens.{Token, word, open_bracket, close_bracket, comma}
-use Rattle.type_names.specs.TypeTexts.{Shape, plain, array, map_of, nullable, state, Shapes, none, and_one, is_plain_name, is_literal, literals_tokens, brackets, tokens_of, tokens_of_all, IsPlain, AreLiterals, ShapeFits, ShapesFit}
+use Rattle.type_names.specs.TypeTexts.{WrittenType, plain, array, map_of, nullable, state, WrittenTypes, none, and_one, is_plain_name, is_literal, literals_tokens, brackets, tokens_of, tokens_of_all, IsOneWord, AreLiterals, ShapeFits, ShapesFit}
 use Rattle.type_names.specs.declared.goal.Kind.{Kind}
 use Rattle.type_names.specs.declared.goal.Kind.TheVariants.{PlainName, ArrayName, MapName, NullableName, StateName, OtherName}
 use Rattle.type_names.specs.declared.goal.Goal.{Goal}
@@ -14,16 +14,16 @@ use Rattle.type_names.specs.Judging.{kind_of, type_goals, some_if, step, done}
 use Rattle.type_names.proofs.KindNames.{IsKind, is_kind}
 
 abbrev pub Of : Goal → List Token → Type 0
-Of AnyType t = (ty : Shape) × ShapeFits ty × (t ≡ tokens_of ty)
-Of PlainType t = (ty : Shape) × IsPlain ty × ShapeFits ty × (t ≡ tokens_of ty)
+Of AnyType t = (ty : WrittenType) × ShapeFits ty × (t ≡ tokens_of ty)
+Of PlainType t = (ty : WrittenType) × IsOneWord ty × ShapeFits ty × (t ≡ tokens_of ty)
 Of Opening t = t ≡ open_bracket ∷ []
 Of Closing t = t ≡ close_bracket ∷ []
 Of Dividing t = t ≡ comma ∷ []
 Of Name t = (w : List ℕ) × (t ≡ word w ∷ [])
-Of BehindName t = (ls : List Token) × (types : Shapes) × AreLiterals ls × ShapesFit types × (t ≡ brackets ls ++ tokens_of_all types)
+Of BehindName t = (ls : List Token) × (types : WrittenTypes) × AreLiterals ls × ShapesFit types × (t ≡ brackets ls ++ tokens_of_all types)
 Of OneLiteral t = (l : Token) × (is_literal l ≡ true) × (t ≡ l ∷ [])
 Of MoreLiterals t = (ls : List Token) × AreLiterals ls × (t ≡ literals_tokens ls)
-Of MoreTypes t = (types : Shapes) × ShapesFit types × (t ≡ tokens_of_all types)
+Of MoreTypes t = (types : WrittenTypes) × ShapesFit types × (t ≡ tokens_of_all types)
 
 abbrev pub IsEnd : List Token → Type 0
 IsEnd t = t ≡ []

@@ -7,7 +7,7 @@ use Rattle.first_fault.proofs.Machines.{IsLive, machine_reads}
 use Rattle.first_fault.proofs.Cold.{cold}
 use Rattle.line_tokens.specs.Tokens.{Token, Placed, tokens_of}
 use Rattle.type_names.specs.TypeTexts as texts
-use Rattle.type_names.specs.TypeTexts.{Shape, IsType}
+use Rattle.type_names.specs.TypeTexts.{WrittenType, IsType}
 use Rattle.type_names.specs.declared.goal.Goal.{Goal}
 use Rattle.type_names.specs.declared.goal.Goal.TheVariants.{AnyType}
 use Rattle.type_names.specs.Judging.{step, done, at_step, first_fault}

@@ -3,7 +3,7 @@ use Rattle.std.proofs.Common.{◌≡◌, ℕ, List, [], ◌∷◌, ◌++◌, cod
 use Rattle.std.specs.Str.{bytes_eq}
 use Rattle.std.proofs.lemmas.Slice.Eq.{bytes_eq-Decides}
 use Rattle.line_tokens.specs.Tokens.{Token, word, open_bracket, close_bracket, comma}
-use Rattle.type_names.specs.TypeTexts.{Shape, plain, array, map_of, nullable, state, Shapes, none, and_one, is_plain_name, literals_tokens, brackets, tokens_of, tokens_of_all, ShapeFits, ShapesFit, IsType}
+use Rattle.type_names.specs.TypeTexts.{WrittenType, plain, array, map_of, nullable, state, WrittenTypes, none, and_one, is_plain_name, literals_tokens, brackets, tokens_of, tokens_of_all, ShapeFits, ShapesFit, IsType}
 
 not_plain : (w k : List ℕ) → is_plain_name k ≡ false → is_plain_name w ≡ true → w ≡ k → ⊥
 not_plain w k unlike like e = let h : is_plain_name k ≡ true = sym (ap is_plain_name e) ∙ like in absurd cc
@@ -29,11 +29,11 @@ same_literals (l ∷ ls) (k ∷ ks) r s e =
     let q = same_literals ls ks r s rest in
     (ap (λ x. x ∷ ls) one ∙ ap (λ x. k ∷ x) q.0, q.1)
 
-no_bracket : (us : Shapes) (r s : List Token) → open_bracket ∷ r ≡ tokens_of_all us ++ s → ⊥
+no_bracket : (us : WrittenTypes) (r s : List Token) → open_bracket ∷ r ≡ tokens_of_all us ++ s → ⊥
 no_bracket none r s e = absurd cc
 no_bracket (and_one u us) r s e = absurd cc
 
-same_brackets : (ls ks : List Token) (ts us : Shapes) (r s : List Token) → brackets ls ++ (tokens_of_all ts ++ r) ≡ brackets ks ++ (tokens_of_all us ++ s) → (ls ≡ ks) × (tokens_of_all ts ++ r ≡ tokens_of_all us ++ s)
+same_brackets : (ls ks : List Token) (ts us : WrittenTypes) (r s : List Token) → brackets ls ++ (tokens_of_all ts ++ r) ≡ brackets ks ++ (tokens_of_all us ++ s) → (ls ≡ ks) × (tokens_of_all ts ++ r ≡ tokens_of_all us ++ s)
 same_brackets [] [] ts us r s e = (refl, e)
 same_brackets [] (k ∷ ks) ts us r s e = absurd (no_bracket ts _ r (sym e))
 same_brackets (l ∷ ls) [] ts us r s e = absurd (no_bracket us _ s e)
@@ -48,7 +48,7 @@ regrouped : (x y z u v w : List Token) → (x ++ y) ++ z ≡ (u ++ v) ++ w → x
 regrouped x y z u v w e = sym (append_assoc x y z) ∙ e ∙ append_assoc u v w
 
 mutual
-  pub same_type : (x y : Shape) (r s : List Token) → ShapeFits x → ShapeFits y → tokens_of x ++ r ≡ tokens_of y ++ s → (x ≡ y) × (r ≡ s)
+  pub same_type : (x y : WrittenType) (r s : List Token) → ShapeFits x → ShapeFits y → tokens_of x ++ r ≡ tokens_of y ++ s → (x ≡ y) × (r ≡ s)
   same_type (plain w) (array b) r s f g e = absurd (not_plain w (codes "Array") refl f (names _ _ _ _ e).0)
   same_type (plain w) (map_of j b) r s f g e = absurd (not_plain w (codes "Map") refl f (names _ _ _ _ e).0)
   same_type (plain w) (nullable b) r s f g e = absurd (not_plain w (codes "Nullable") refl f (names _ _ _ _ e).0)
@@ -91,7 +91,7 @@ mutual
       let p = same_types ts us r s f.1 g.1 literals.1 in
       (ap (λ x. state x ls ts) name.0 ∙ ap (λ x. state m x ts) literals.0 ∙ ap (λ x. state m ks x) p.0, p.1)
 
-  same_types : (x y : Shapes) (r s : List Token) → ShapesFit x → ShapesFit y → tokens_of_all x ++ r ≡ tokens_of_all y ++ s → (x ≡ y) × (r ≡ s)
+  same_types : (x y : WrittenTypes) (r s : List Token) → ShapesFit x → ShapesFit y → tokens_of_all x ++ r ≡ tokens_of_all y ++ s → (x ≡ y) × (r ≡ s)
   same_types none none r s f g e = (refl, behind close_bracket r s e)
   same_types none (and_one b us) r s f g e = absurd cc
   same_types (and_one a ts) none r s f g e = absurd cc
@@ -101,5 +101,5 @@ mutual
       let q = same_types ts us r s f.1 g.1 p.1 in
       (ap (λ x. and_one x ts) p.0 ∙ ap (λ x. and_one b x) q.0, q.1)
 
-pub one_type : (tokens : List Token) (x y : Shape) → IsType tokens x → IsType tokens y → x ≡ y
+pub one_type : (tokens : List Token) (x y : WrittenType) → IsType tokens x → IsType tokens y → x ≡ y
 one_type tokens x y f g = (same_type x y [] [] f.0 g.0 (append-nil (tokens_of x) ∙ sym f.1 ∙ g.1 ∙ sym (append-nil (tokens_of y)))).0

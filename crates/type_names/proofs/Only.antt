@@ -2,7 +2,7 @@
 use Rattle.std.proofs.Common.{◌≡◌, List, [], ◌∷◌, ◌++◌, codes, Ok, refl, sym, ap, subst, append_assoc}
 use Rattle.first_fault.specs.Machine.{run, later}
 use Rattle.line_tokens.specs.Tokens.{Token, word, integer, open_bracket, close_bracket, comma}
-use Rattle.type_names.specs.TypeTexts.{Shape, plain, array, map_of, nullable, state, Shapes, none, and_one, literals_tokens, brackets, tokens_of, tokens_of_all, IsPlain, AreLiterals, ShapeFits, ShapesFit}
+use Rattle.type_names.specs.TypeTexts.{WrittenType, plain, array, map_of, nullable, state, WrittenTypes, none, and_one, literals_tokens, brackets, tokens_of, tokens_of_all, IsOneWord, AreLiterals, ShapeFits, ShapesFit}
 use Rattle.type_names.specs.declared.goal.Goal.{Goal}
 use Rattle.type_names.specs.declared.goal.Goal.TheVariants.{AnyType, PlainType, Opening, Closing, Dividing, Name, BehindName, OneLiteral, MoreLiterals, MoreTypes}
 use Rattle.type_names.specs.Judging.{step, done}
@@ -21,14 +21,14 @@ literals_run (l ∷ ls) f s t h =
     let one : Runs (OneLiteral ∷ MoreLiterals ∷ s) (l ∷ (literals_tokens ls ++ t)) = rw f.0 (ap later (literals_run ls f.1 s t h)) in
     ap later one
 
-plain_run : (ty : Shape) → IsPlain ty → ShapeFits ty → (s : List Goal) (t : List Token) → Runs s t → Runs (PlainType ∷ s) (tokens_of ty ++ t)
+plain_run : (ty : WrittenType) → IsOneWord ty → ShapeFits ty → (s : List Goal) (t : List Token) → Runs s t → Runs (PlainType ∷ s) (tokens_of ty ++ t)
 plain_run (plain w) p f s t h = rw f (ap later h)
 plain_run (array ty) p f s t h = absurd p
 plain_run (map_of key ty) p f s t h = absurd p
 plain_run (nullable ty) p f s t h = absurd p
 plain_run (state name ls types) p f s t h = absurd p
 
-brackets_run : (ls : List Token) (types : Shapes) → AreLiterals ls → (s : List Goal) (t : List Token) → Runs (MoreTypes ∷ s) (tokens_of_all types ++ t) → Runs (BehindName ∷ s) (brackets ls ++ (tokens_of_all types ++ t))
+brackets_run : (ls : List Token) (types : WrittenTypes) → AreLiterals ls → (s : List Goal) (t : List Token) → Runs (MoreTypes ∷ s) (tokens_of_all types ++ t) → Runs (BehindName ∷ s) (brackets ls ++ (tokens_of_all types ++ t))
 brackets_run [] none f s t h = h
 brackets_run [] (and_one ty types) f s t h = h
 brackets_run (l ∷ ls) types f s t h =
@@ -36,7 +36,7 @@ brackets_run (l ∷ ls) types f s t h =
     ap later one
 
 mutual
-  pub type_run : (ty : Shape) → ShapeFits ty → (s : List Goal) (t : List Token) → Runs s t → Runs (AnyType ∷ s) (tokens_of ty ++ t)
+  pub type_run : (ty : WrittenType) → ShapeFits ty → (s : List Goal) (t : List Token) → Runs s t → Runs (AnyType ∷ s) (tokens_of ty ++ t)
   type_run (plain w) f s t h = rw f (ap later h)
   type_run (array ty) f s t h =
       let inner : Runs (AnyType ∷ Closing ∷ s) ((tokens_of ty ++ (close_bracket ∷ [])) ++ t) = regrouped (AnyType ∷ Closing ∷ s) (tokens_of ty) (close_bracket ∷ []) t (type_run ty f (Closing ∷ s) (close_bracket ∷ t) (ap later h)) in
@@ -54,7 +54,7 @@ mutual
       let inner : Runs (BehindName ∷ s) ((brackets ls ++ tokens_of_all types) ++ t) = regrouped (BehindName ∷ s) (brackets ls) (tokens_of_all types) t (brackets_run ls types f.0 s t (types_run types f.1 s t h)) in
       ap (λ r. later (later (later r))) inner
 
-  pub types_run : (types : Shapes) → ShapesFit types → (s : List Goal) (t : List Token) → Runs s t → Runs (MoreTypes ∷ s) (tokens_of_all types ++ t)
+  pub types_run : (types : WrittenTypes) → ShapesFit types → (s : List Goal) (t : List Token) → Runs s t → Runs (MoreTypes ∷ s) (tokens_of_all types ++ t)
   types_run none f s t h = ap later h
   types_run (and_one ty types) f s t h =
       let inner : Runs (AnyType ∷ MoreTypes ∷ s) ((tokens_of ty ++ tokens_of_all types) ++ t) = regrouped (AnyType ∷ MoreTypes ∷ s) (tokens_of ty) (tokens_of_all types) t (type_run ty f.0 (MoreTypes ∷ s) (tokens_of_all types ++ t) (types_run types f.1 s t h)) in

@@ -2,7 +2,7 @@
 
 ghost use Rattle.std.specs.Prelude.{◌≡◌, ◌∷◌, [], List, length, IfOk};
 ghost use Rattle.line_tokens.specs.Tokens.{Token, tokens_of};
-ghost use Rattle.type_names.specs.TypeTexts.{Shape, IsType};
+ghost use Rattle.type_names.specs.TypeTexts.{WrittenType, IsType};
 ghost use Rattle.type_names.specs.Judging.{first_fault};
 ghost use Rattle.type_names.specs.Syntax.{IsTypeFault};
 ghost use Rattle.type_names.specs.declared.goal.Goal.TheVariants.{AnyType};
@@ -50,5 +50,5 @@ pub fn type_fault(alloc: Global, text: &[u8]) -> Result<Option<u64>, OutOfMemory
 
 /// A text spells one type at most.
 pub fn law_one_type()
-    ensures { (tokens : List Token) (one other : Shape) → IsType tokens one → IsType tokens other → one ≡ other }
+    ensures { (tokens : List Token) (one other : WrittenType) → IsType tokens one → IsType tokens other → one ≡ other }
 {}

@@ -4,7 +4,7 @@ use Rattle.std.specs.Str.{bytes_eq}
 use Rattle.std.proofs.lemmas.Slice.Eq.{bytes_eq-Decides}
 use mir.Syntax.{w8, w16, w32, w64}
 use Rattle.line_tokens.specs.Tokens.{Token, word, open_bracket, close_bracket, comma}
-use Rattle.type_names.specs.TypeTexts.{Shape as Written, Shapes as WrittenTypes, plain, array, map_of, nullable, state, is_plain_name, tokens_of, tokens_of_all, brackets, ShapeFits}
+use Rattle.type_names.specs.TypeTexts.{WrittenType as Written, WrittenTypes as WrittenTypes, plain, array, map_of, nullable, state, is_plain_name, tokens_of, tokens_of_all, brackets, ShapeFits}
 use Rattle.type_shapes.specs.Shapes.{Shape, Whole, Signed, Str, plain_shape, nesting}
 
 pub behind_first : (t : Token) (r s : List Token) → t ∷ r ≡ t ∷ s → r ≡ s

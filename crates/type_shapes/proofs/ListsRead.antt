@@ -4,7 +4,7 @@ use Rattle.std.proofs.Math.Nat.{le-max_left, le-max_right, max-le}
 use Rattle.agg_typing.specs.Literals.{Literal}
 use Rattle.line_tokens.specs.Tokens.{Token, open_bracket, close_bracket, comma}
 use Rattle.type_names.specs.Syntax.{tokens_in}
-use Rattle.type_names.specs.TypeTexts.{Shape as Written, Shapes as WrittenTypes, none, and_one, tokens_of, tokens_of_all, literals_tokens, brackets, is_literal, AreLiterals, ShapesFit}
+use Rattle.type_names.specs.TypeTexts.{WrittenType as Written, WrittenTypes as WrittenTypes, none, and_one, tokens_of, tokens_of_all, literals_tokens, brackets, is_literal, AreLiterals, ShapesFit}
 use Rattle.type_shapes.specs.Literals.{IsLiteral, AreRead}
 use Rattle.type_shapes.specs.Shapes.{Shape, shapes, AllSpell, nesting, deepest}
 use Rattle.type_shapes.specs.Reading.{IsRead, ReadsType, ReadsTypes, ReadsLiterals}

@@ -3,7 +3,7 @@ use Rattle.std.proofs.Common.{◌≡◌, ℕ, ◌<◌, ◌≤◌, List, length, 
 use Rattle.first_fault.proofs.Unique.{one_place}
 use Rattle.line_tokens.specs.Tokens.{Token, tokens_of}
 use Rattle.type_names.specs.Syntax.{IsTypeFault, place, tokens_in}
-use Rattle.type_names.specs.TypeTexts.{Shape as Written, IsType}
+use Rattle.type_names.specs.TypeTexts.{WrittenType as Written, IsType}
 use Rattle.type_shapes.specs.declared.shape.TypeShape.{TypeShape}
 use Rattle.type_shapes.specs.declared.shape.ShapeFault.{ShapeFault}
 use Rattle.type_shapes.specs.Answer.{IsShapeAnswer}

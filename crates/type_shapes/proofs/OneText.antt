@@ -2,10 +2,10 @@
 use Rattle.std.proofs.Common.{◌≡◌, ℕ, List, Result, Ok, Err, subst}
 use Rattle.tsv_text.specs.declared.fault.TextFault.{TextFault}
 use Rattle.tsv_text.specs.declared.fault.TextFault.TheVariants.{LoneBackslash, BadHex}
-use Rattle.tsv_text.specs.Escapes.{IsUnescaped, IsSameAnswer}
+use Rattle.tsv_text.specs.Escapes.{IsUnescaped, IsSameUnescaped}
 
 abbrev pub HasOneAnswer : Type 0
-HasOneAnswer = (field : List ℕ) (one other : Result (List ℕ) TextFault) → IsUnescaped field one → IsUnescaped field other → IsSameAnswer one other
+HasOneAnswer = (field : List ℕ) (one other : Result (List ℕ) TextFault) → IsUnescaped field one → IsUnescaped field other → IsSameUnescaped one other
 
 abbrev pub Unescapes : List ℕ → Type 0
 Unescapes field = (bytes : List ℕ) × IsUnescaped field (Ok bytes)

@@ -9,17 +9,18 @@ use Rattle.agg_terms.specs.declared.words.Suffix.{Suffix}
 use Rattle.agg_terms.specs.declared.words.Suffix.TheVariants as suffix
 use Rattle.agg_terms.specs.Chains.{Chain, Ty, Tys, no_tys, a_ty}
 use Rattle.agg_terms.specs.Chains as terms
+use Rattle.agg_terms.specs.Widths.{IsSignedWidth}
 use Rattle.agg_typing.specs.Legal.{is_basic, function_of}
 use Rattle.agg_typing.specs.Names.{function_text, suffix_text, suffixes_text}
 use Rattle.line_tokens.specs.Tokens.{Token, word, open_bracket, close_bracket, comma, continues_name}
 use Rattle.type_names.specs.Syntax.{tokens_in}
-use Rattle.type_names.specs.TypeTexts.{Shape as Written, Shapes as WrittenTypes, plain, array, map_of, nullable, state, none, and_one, is_plain_name, tokens_of, tokens_of_all, ShapeFits, ShapesFit, IsPlain}
+use Rattle.type_names.specs.TypeTexts.{WrittenType as Written, WrittenTypes as WrittenTypes, plain, array, map_of, nullable, state, none, and_one, is_plain_name, tokens_of, tokens_of_all, ShapeFits, ShapesFit, IsOneWord}
 use Rattle.type_names.specs.TypeTexts as texts
-use Rattle.type_texts.specs.ChainNames.{leaf_name, suffixes_of, chain_name}
+use Rattle.type_texts.specs.ChainNames.{leaf_name, written_suffixes, chain_name}
 use Rattle.type_texts.specs.ParamTexts.{params_of}
 use Rattle.type_texts.specs.TypeNames.{brackets, chain_text, ty_text, tys_text}
 use Rattle.type_shapes.specs.Shapes.{plain_shape, Spells, AllSpell, nesting, deepest}
-use Rattle.type_shapes.specs.ReadsBack.{literals_of, shape_in, shapes_in, levels, most_levels, IsWidth, HasParts, HaveParts}
+use Rattle.type_shapes.specs.ReadsBack.{literals_of, shape_in, shapes_in, levels, most_levels, HasParts, HaveParts}
 use Rattle.type_shapes.proofs.TokensBack.{Ends, AllContinue, AllContinue-append, name_first}
 use Rattle.type_shapes.proofs.Printed.{RoundTrip, params_written, written_literals, brackets_written}
 
@@ -89,8 +90,8 @@ suffixes_go (s ∷ ss) = AllContinue-append (suffix_text s) (suffixes_text ss) (
 chain_has_name : (c : Chain) → IsName (chain_name c)
 chain_has_name c =
     let f = name_of (function_text (leaf_name (function_of c))) (function_is_name (leaf_name (function_of c))) in
-    let ss = suffixes_text (suffixes_of c) in
-    record { head = f.head; tail = f.tail ++ ss; is = ap (λ t. t ++ ss) f.is; letter = f.letter; more = AllContinue-append f.tail ss f.more (suffixes_go (suffixes_of c)) }
+    let ss = suffixes_text (written_suffixes c) in
+    record { head = f.head; tail = f.tail ++ ss; is = ap (λ t. t ++ ss) f.is; letter = f.letter; more = AllContinue-append f.tail ss f.more (suffixes_go (written_suffixes c)) }
 
 name_read : (text rest : List ℕ) → IsName text → Ends rest → tokens_in (text ++ rest) ≡ word text ∷ tokens_in rest
 name_read text rest n e = ap (λ t. tokens_in (t ++ rest)) n.is ∙ name_first n.head n.tail rest n.letter n.more e ∙ ap (λ t. word t ∷ tokens_in rest) (sym n.is)
@@ -127,7 +128,7 @@ whole_printed n (inr (inl e)) = subst (λ n. IsPrinted (terms.Whole n)) (sym e) 
 whole_printed n (inr (inr (inl e))) = subst (λ n. IsPrinted (terms.Whole n)) (sym e) (plain_printed (terms.Whole 32) (codes "UInt32") refl refl refl refl refl)
 whole_printed n (inr (inr (inr e))) = subst (λ n. IsPrinted (terms.Whole n)) (sym e) (plain_printed (terms.Whole 64) (codes "UInt64") refl refl refl refl refl)
 
-signed_printed : (w : Width) → IsWidth w → IsPrinted (terms.Signed w)
+signed_printed : (w : Width) → IsSignedWidth w → IsPrinted (terms.Signed w)
 signed_printed w8 h = plain_printed (terms.Signed w8) (codes "Int8") refl refl refl refl refl
 signed_printed w16 h = plain_printed (terms.Signed w16) (codes "Int16") refl refl refl refl refl
 signed_printed w32 h = plain_printed (terms.Signed w32) (codes "Int32") refl refl refl refl refl
@@ -135,7 +136,7 @@ signed_printed w64 h = plain_printed (terms.Signed w64) (codes "Int64") refl ref
 signed_printed w h = absurd h
 
 -- what spells a type without parts has no parts
-basic_is_plain : (k : Ty) (w : Written) → is_basic k ≡ true → Spells w (shape_in k) → IsPlain w
+basic_is_plain : (k : Ty) (w : Written) → is_basic k ≡ true → Spells w (shape_in k) → IsOneWord w
 basic_is_plain k (plain name) b s = tt
 basic_is_plain (terms.Whole n) w b s = absurd s
 basic_is_plain (terms.Signed v) w b s = absurd s

@@ -3,7 +3,7 @@ use Rattle.std.proofs.Common.{◌≡◌, ℕ, ◌≤◌, List, [], ◌∷◌, Op
 use Rattle.agg_typing.specs.Literals.{Literal, Int, Decimal, Text}
 use Rattle.line_tokens.specs.Tokens.{Token, integer, decimal, quoted}
 use Rattle.type_names.specs.Syntax.{tokens_in}
-use Rattle.type_names.specs.TypeTexts.{Shape as Written, Shapes as WrittenTypes, plain, array, map_of, nullable, state, none, and_one, IsType, tokens_of}
+use Rattle.type_names.specs.TypeTexts.{WrittenType as Written, WrittenTypes as WrittenTypes, plain, array, map_of, nullable, state, none, and_one, IsType, tokens_of}
 use Rattle.type_texts.specs.TypeNames.{ty_text}
 use Rattle.type_shapes.specs.declared.shape.TypeShape.{TypeShape}
 use Rattle.type_shapes.specs.declared.shape.ShapeFault.{ShapeFault}

@@ -5,7 +5,7 @@ use Rattle.std.proofs.Math.Nat.{le-max_left, le-max_right, max-le}
 use Rattle.agg_typing.specs.Literals.{Literal}
 use Rattle.line_tokens.specs.Tokens.{Token, word, open_bracket, close_bracket, comma}
 use Rattle.type_names.specs.Syntax.{tokens_in}
-use Rattle.type_names.specs.TypeTexts.{Shape as Written, Shapes as WrittenTypes, map_of, state, tokens_of, tokens_of_all, brackets, ShapeFits}
+use Rattle.type_names.specs.TypeTexts.{WrittenType as Written, WrittenTypes as WrittenTypes, map_of, state, tokens_of, tokens_of_all, brackets, ShapeFits}
 use Rattle.type_shapes.specs.Shapes.{Shape, Arr, MapOf, Nullable, State, plain_shape, shapes, Spells, nesting, deepest}
 use Rattle.type_shapes.specs.Reading.{IsFound, ReadsType, ReadsInside, ReadsBehind, ReadsTypes, ReadsLiterals}
 use Rattle.type_shapes.proofs.Fronts.{behind_first, same_bytes, nesting_is_some, begins_with_name, after_plain, after_array, after_nullable, after_map, after_state, no_other}

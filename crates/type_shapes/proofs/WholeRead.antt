@@ -1,7 +1,7 @@
 -- A whole text that spells a type.
 use Rattle.std.proofs.Common.{◌≡◌, ℕ, ◌<◌, ◌≤◌, List, [], Option, Some, None, Bor, sym, subst, ◌∙◌, append-nil}
 use Rattle.type_names.specs.Syntax.{tokens_in, IsTypeFault}
-use Rattle.type_names.specs.TypeTexts.{Shape as Written, IsType, tokens_of}
+use Rattle.type_names.specs.TypeTexts.{WrittenType as Written, IsType, tokens_of}
 use Rattle.type_shapes.specs.declared.shape.TypeShape.{TypeShape}
 use Rattle.type_shapes.specs.Folds.{shape_of}
 use Rattle.type_shapes.specs.Reading.{ReadsType}

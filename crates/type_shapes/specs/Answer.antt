@@ -1,7 +1,7 @@
 -- What the reader of types answers.
 use Rattle.std.specs.Prelude.{ℕ, ◌≤◌, ◌<◌, List, Some, Result, Ok, Err}
 use Rattle.type_names.specs.Syntax.{tokens_in, IsTypeFault}
-use Rattle.type_names.specs.TypeTexts.{Shape as Written, IsType}
+use Rattle.type_names.specs.TypeTexts.{WrittenType as Written, IsType}
 use Rattle.type_shapes.specs.declared.shape.TypeShape.{TypeShape}
 use Rattle.type_shapes.specs.declared.shape.ShapeFault.{ShapeFault}
 use Rattle.type_shapes.specs.Folds.{shape_of}

@@ -3,7 +3,7 @@ use Rattle.std.specs.Prelude.{◌≡◌, ℕ, suc, ◌≤◌, ◌<◌, List, ◌
 use Rattle.agg_typing.specs.Literals.{Literal}
 use Rattle.line_tokens.specs.Tokens.{Token, word, open_bracket, close_bracket, comma}
 use Rattle.type_names.specs.Syntax.{tokens_in}
-use Rattle.type_names.specs.TypeTexts.{Shape as Written, Shapes as WrittenTypes, tokens_of, tokens_of_all, brackets, ShapeFits, ShapesFit, AreLiterals}
+use Rattle.type_names.specs.TypeTexts.{WrittenType as Written, WrittenTypes as WrittenTypes, tokens_of, tokens_of_all, brackets, ShapeFits, ShapesFit, AreLiterals}
 use Rattle.type_shapes.specs.declared.mark.Mark.{Mark}
 use Rattle.type_shapes.specs.declared.mark.Mark.TheVariants.{Opening, Closing, Dividing}
 use Rattle.type_shapes.specs.Literals.{AreRead}
@@ -30,6 +30,10 @@ pub record IsRead {V : Type 0} (most depth : ℕ) (spells : V → Type 0) (more 
 abbrev pub IsFound : {V : Type 0} → ℕ → ℕ → (V → Type 0) → List Token → Option (V × List ℕ) → Type 0
 IsFound most depth spells more None = most < depth
 IsFound most depth spells more (Some f) = IsRead most depth spells more f.0 f.1
+
+-- a type stands at the front of a text
+abbrev pub HasType : List ℕ → Type 0
+HasType text = (ty : Written) × (more : List Token) × ShapeFits ty × (tokens_in text ≡ tokens_of ty ++ more)
 
 -- at a type's text
 abbrev pub ReadsType : ℕ → List ℕ → Option (Shape × List ℕ) → Type 0

@@ -1,10 +1,10 @@
 -- What is printed reads back: the shape that the text of a type has.
-use Rattle.std.specs.Prelude.{◌≡◌, ℕ, suc, max, ◌<◌, ◌≤◌, ◌^◌, ◌/◌, ◌%◌, ℤ, pos, negsuc, Bool, true, false, ◌⊎◌, List, [], ◌∷◌, ◌++◌, length, Some, Result, Ok, Err, codes}
+use Rattle.std.specs.Prelude.{◌≡◌, ℕ, suc, max, ◌<◌, ◌≤◌, ◌^◌, ◌/◌, ◌%◌, ℤ, pos, negsuc, Bool, true, false, List, [], ◌∷◌, ◌++◌, length, Some, Result, Ok, Err, codes}
 use Rattle.std.specs.Fmt.{decimal}
 use Rattle.std.specs.Str.Parse.{digits_value}
-use mir.Syntax.{Width, w8, w16, w32, w64}
 use Rattle.agg_terms.specs.Chains.{Chain, Ty, Tys, Leaf, no_tys, a_ty}
 use Rattle.agg_terms.specs.Chains as terms
+use Rattle.agg_terms.specs.Widths.{IsSignedWidth, IsWholeWidth}
 use Rattle.agg_typing.specs.Legal.{is_basic}
 use Rattle.agg_typing.specs.Literals.{Literal, Int, Decimal, Text}
 use Rattle.type_texts.specs.ChainNames.{chain_name}
@@ -107,19 +107,12 @@ FitsChain (terms.State c) = FitsChain c
 FitsChain (terms.Merge c) = FitsChain c
 FitsChain (terms.Resample start end step c) = FitsInt start × FitsInt end × (step < 2 ^ 64) × FitsChain c
 
-abbrev pub IsWidth : Width → Type 0
-IsWidth w8 = Unit {0}
-IsWidth w16 = Unit {0}
-IsWidth w32 = Unit {0}
-IsWidth w64 = Unit {0}
-IsWidth w = ⊥
-
 -- Nullable and Map have the parts that they may have: a number type or String in Nullable and for keys. Numbers have 8 to
 -- 64 bits.
 abbrev mutual
   pub HasParts : Ty → Type 0
-  HasParts (terms.Whole n) = (n ≡ 8) ⊎ ((n ≡ 16) ⊎ ((n ≡ 32) ⊎ (n ≡ 64)))
-  HasParts (terms.Signed w) = IsWidth w
+  HasParts (terms.Whole n) = IsWholeWidth n
+  HasParts (terms.Signed w) = IsSignedWidth w
   HasParts terms.Str = Unit {0}
   HasParts (terms.Arr t) = HasParts t
   HasParts (terms.MapTy k t) = (is_basic k ≡ true) × HasParts k × HasParts t

@@ -3,7 +3,7 @@ use Rattle.std.specs.Prelude.{◌≡◌, ℕ, suc, max, List, [], ◌∷◌, cod
 use Rattle.std.specs.Str.{bytes_eq}
 use mir.Syntax.{Width, w8, w16, w32, w64}
 use Rattle.agg_typing.specs.Literals.{Literal}
-use Rattle.type_names.specs.TypeTexts.{Shape as Written, Shapes as WrittenTypes, plain, array, map_of, nullable, state, none, and_one}
+use Rattle.type_names.specs.TypeTexts.{WrittenType as Written, WrittenTypes as WrittenTypes, plain, array, map_of, nullable, state, none, and_one}
 use Rattle.type_shapes.specs.Literals.{AreRead}
 
 mutual

@@ -5,7 +5,7 @@ ghost use Rattle.std.specs.Option.{option_map};
 ghost use Rattle.type_shapes.specs.Answer.{IsShapeAnswer};
 ghost use Rattle.type_shapes.specs.Folds.{shape_of};
 ghost use Rattle.chain_params.specs.Literals.{literal_of};
-ghost use Rattle.type_shapes.specs.Reading.{ReadsLiterals, ReadsType, ReadsInside, ReadsBehind, ReadsTypes};
+ghost use Rattle.type_shapes.specs.Reading.{HasType, ReadsLiterals, ReadsType, ReadsInside, ReadsBehind, ReadsTypes};
 
 use crate::literal::literal;
 use crate::mark::{Mark, behind, first_token, first_word};
@@ -212,9 +212,13 @@ fn read_types(
     Ok(Some((types, after)))
 }
 
-/// The shape of the type at the front of a text that begins with one, and what stands behind it; `None` where types stand
-/// in one another more than sixteen deep. Of a text that begins with no type nothing is said: judge it first.
+/// The shape of the type at the front of a text, and what stands behind it; `None` where types stand in one another more
+/// than sixteen deep. Judge first that a type stands there.
+///
+/// # Errors
+/// [`OutOfMemory`] where there is no room for the shape.
 pub fn read_front(alloc: Global, text: &[u8]) -> Result<Option<(TypeShape, &[u8])>, OutOfMemory>
+    requires { HasType text.now }
     ensures { IfOk result (λ found. ReadsType 16 text.now (option_map (λ f. (shape_of f.0, f.1.now)) found)) }
 {
     read_type(alloc, text, MOST_NESTING)

@@ -16,7 +16,7 @@ use Rattle.type_names.specs.declared.chain_name.NameShape.{NameShape}
 use Rattle.type_names.specs.declared.chain_name.NameFault.{NameFault}
 use Rattle.type_names.specs.Reads.{IsReadAs, shape_of}
 use Rattle.agg_typing.specs.Legal.{function_of}
-use Rattle.type_texts.specs.ChainNames.{leaf_name, suffixes_of, chain_name}
+use Rattle.type_texts.specs.ChainNames.{leaf_name, written_suffixes, chain_name}
 use Rattle.type_texts.specs.ReadsBack.{shape_in, IsShapeUnlessMemory, NameReadsBack}
 
 suffixes_text-snoc : (ss : List Suffix) (s : Suffix) → suffixes_text (ss ++ s ∷ []) ≡ suffixes_text ss ++ suffix_text s
@@ -29,7 +29,7 @@ spelled-snoc f ss s = ap (λ t. function_text f ++ t) (suffixes_text-snoc ss s) 
 -- the whole chain is the inner one under this suffix
 pub record IsUnder (whole inner : Chain) (s : Suffix) : Type 0 where
   pub function : function_of whole ≡ function_of inner
-  pub suffixes : suffixes_of whole ≡ suffixes_of inner ++ s ∷ []
+  pub suffixes : written_suffixes whole ≡ written_suffixes inner ++ s ∷ []
 
 -- a chain of the code under a suffix is that suffix's chain
 plain_under : (whole inner : Chain) (s : Suffix) (f : Chain → Chain) → whole ≡ f inner → IsUnder (f inner) inner s → IsUnder whole inner s
@@ -72,7 +72,7 @@ under_of chain built got inner s t e f g under = subst (λ x. IsUnder (chain_of 
 pub written : {E : Type 0} (before between after name : List ℕ) (r : Result (Unit {0}) E) (whole inner : Chain) (s : Suffix) → IsUnder whole inner s → between ≡ before ++ chain_name inner → name ≡ suffix_text s
     → OnOk r (after ≡ between ++ name) → OnOk r (after ≡ before ++ chain_name whole)
 written before between after name (Ok u) whole inner s under first named second =
-    let whole_name : chain_name whole ≡ chain_name inner ++ suffix_text s = ap (λ f. spelled (leaf_name f) (suffixes_of whole)) under.function ∙ ap (spelled (leaf_name (function_of inner))) under.suffixes ∙ spelled-snoc (leaf_name (function_of inner)) (suffixes_of inner) s in
+    let whole_name : chain_name whole ≡ chain_name inner ++ suffix_text s = ap (λ f. spelled (leaf_name f) (written_suffixes whole)) under.function ∙ ap (spelled (leaf_name (function_of inner))) under.suffixes ∙ spelled-snoc (leaf_name (function_of inner)) (written_suffixes inner) s in
     second ∙ ap (λ t. t ++ name) first ∙ append_assoc before (chain_name inner) name ∙ ap (λ t. before ++ (chain_name inner ++ t)) named ∙ ap (λ t. before ++ t) (sym whole_name)
 written before between after name (Err e) whole inner s under first named second = tt
 
@@ -86,4 +86,4 @@ by_reading shape (Err NameFault.TooManySuffixes) few read = absurd (omega arith)
 by_reading shape (Err NameFault.OutOfMemory) few read = refl
 
 pub name_reads_back : NameReadsBack
-name_reads_back c answer few read = by_reading (shape_in c) answer few (subst (λ r. IsReadAs r answer) (read-spelled (leaf_name (function_of c)) (suffixes_of c)) read)
+name_reads_back c answer few read = by_reading (shape_in c) answer few (subst (λ r. IsReadAs r answer) (read-spelled (leaf_name (function_of c)) (written_suffixes c)) read)

@@ -26,19 +26,19 @@ leaf_name (terms.GroupBit Or) = LeafName.BitOr
 leaf_name (terms.GroupBit Xor) = LeafName.BitXor
 
 -- The suffixes of a chain, from the inside out.
-abbrev pub suffixes_of : Chain → List Suffix
-suffixes_of (terms.Of f) = []
-suffixes_of (terms.If c) = suffixes_of c ++ Suffix.If ∷ []
-suffixes_of (terms.Array c) = suffixes_of c ++ Suffix.Array ∷ []
-suffixes_of (terms.MapOf c) = suffixes_of c ++ Suffix.MapOf ∷ []
-suffixes_of (terms.ForEach c) = suffixes_of c ++ Suffix.ForEach ∷ []
-suffixes_of (terms.OrNull c) = suffixes_of c ++ Suffix.OrNull ∷ []
-suffixes_of (terms.OrDefault c) = suffixes_of c ++ Suffix.OrDefault ∷ []
-suffixes_of (terms.Distinct c) = suffixes_of c ++ Suffix.Distinct ∷ []
-suffixes_of (terms.Resample start end step c) = suffixes_of c ++ Suffix.Resample ∷ []
-suffixes_of (terms.State c) = suffixes_of c ++ Suffix.State ∷ []
-suffixes_of (terms.Merge c) = suffixes_of c ++ Suffix.Merge ∷ []
+abbrev pub written_suffixes : Chain → List Suffix
+written_suffixes (terms.Of f) = []
+written_suffixes (terms.If c) = written_suffixes c ++ Suffix.If ∷ []
+written_suffixes (terms.Array c) = written_suffixes c ++ Suffix.Array ∷ []
+written_suffixes (terms.MapOf c) = written_suffixes c ++ Suffix.MapOf ∷ []
+written_suffixes (terms.ForEach c) = written_suffixes c ++ Suffix.ForEach ∷ []
+written_suffixes (terms.OrNull c) = written_suffixes c ++ Suffix.OrNull ∷ []
+written_suffixes (terms.OrDefault c) = written_suffixes c ++ Suffix.OrDefault ∷ []
+written_suffixes (terms.Distinct c) = written_suffixes c ++ Suffix.Distinct ∷ []
+written_suffixes (terms.Resample start end step c) = written_suffixes c ++ Suffix.Resample ∷ []
+written_suffixes (terms.State c) = written_suffixes c ++ Suffix.State ∷ []
+written_suffixes (terms.Merge c) = written_suffixes c ++ Suffix.Merge ∷ []
 
 -- The name of a chain: its function's text and those of its suffixes.
 abbrev pub chain_name : Chain → List ℕ
-chain_name c = spelled (leaf_name (function_of c)) (suffixes_of c)
+chain_name c = spelled (leaf_name (function_of c)) (written_suffixes c)

@@ -2,7 +2,8 @@
 
 ghost use Rattle.std.specs.Prelude.{◌≡◌, ◌++◌, IfOk, OnOk, decimal, map};
 ghost use Rattle.value_types.specs.Folds.{op_of, item_of, link_of, pattern_of};
-ghost use Rattle.type_texts.specs.PatternTexts.{op_text, item_text, link_text, items_text, pattern_text};
+ghost use Rattle.type_texts.specs.PatternTexts.{link_text, items_text, pattern_text};
+ghost use Rattle.agg_typing.specs.PatternWords.{op_text, item_text};
 
 use itoa::Buffer;
 use std::alloc::Global;

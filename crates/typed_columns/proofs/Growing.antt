@@ -7,7 +7,7 @@ use Rattle.std.proofs.lemmas.Float.{T_from_true}
 use Rattle.std.specs.Int.Signed.{le_z_yes}
 use Rattle.agg_terms.specs.Chains as terms
 use Rattle.agg_terms.specs.Values as family
-use Rattle.agg_terms.specs.Fitting.{fits_plain, fits_value, has_bytes, has_cell, has_entries, has_items, has_number, is_nil, is_tree, within}
+use Rattle.agg_terms.specs.Fitting.{fits_plain, fits_value, has_bytes, has_cell, has_entries, has_items, has_number, is_nil, is_tree, is_between}
 use Rattle.agg_terms.proofs.Deciding.{no}
 use Rattle.std.proofs.lemmas.List.Folds.{list_all-map}
 use Rattle.agg_terms.proofs.Lists.{entries_back, values_back}
@@ -53,14 +53,14 @@ all_at p [] i x l is h = absurd (omega arith)
 all_at p (y ∷ ys) zero x l is h = ap p is ∙ first (p y) (list_all p ys) h
 all_at p (y ∷ ys) (suc i) x l is h = all_at p ys i x (omega arith) is (second (p y) (list_all p ys) h)
 
--- numbers within their bounds
+-- numbers is_between their bounds
 int_le-true : (a b : ℤ) → int_le a b ≡ true → a ≤ℤ b
 int_le-true (pos a) (pos b) h = le_z_yes (T_from_true (leb a b) h)
 int_le-true (pos a) (negsuc b) h = no h
 int_le-true (negsuc a) (pos b) h = le_z_yes tt
 int_le-true (negsuc a) (negsuc b) h = le_z_yes (T_from_true (leb b a) h)
 
-between : (low high z : ℤ) → within low high z ≡ true → (low ≤ℤ z) × (z ≤ℤ high)
+between : (low high z : ℤ) → is_between low high z ≡ true → (low ≤ℤ z) × (z ≤ℤ high)
 between low high z h = (int_le-true low z (first (int_le low z) (int_le z high) h), int_le-true z high (second (int_le low z) (int_le z high) h))
 
 -- a value that passes some test of its form has the form
@@ -85,7 +85,7 @@ is_cell test (family.Cell t) h = refl
 is_cell test v h = h
 
 -- a value of a number type, as the test of its bounds
-pub in_bounds : (k : NumberType) (v : family.Value) → fits_value (ty_of (number_ty k)) v ≡ has_number (within (least k) (greatest k)) v
+pub in_bounds : (k : NumberType) (v : family.Value) → fits_value (ty_of (number_ty k)) v ≡ has_number (is_between (least k) (greatest k)) v
 in_bounds number.U8 v = ap (λ t. fits_value t v) ty_of-U8
 in_bounds number.U16 v = ap (λ t. fits_value t v) ty_of-U16
 in_bounds number.U32 v = ap (λ t. fits_value t v) ty_of-U32
@@ -100,15 +100,15 @@ module _ (here : Ty) (v : Value) where
   moved : (t : Ty) → here ≡ t → Fits here v → Fits t v
   moved t is h = ap (λ u. fits_value (ty_of u) (value_of v)) (sym is) ∙ h
 
-  bounded : (k : NumberType) → here ≡ number_ty k → Fits here v → has_number (within (least k) (greatest k)) (value_of v) ≡ true
+  bounded : (k : NumberType) → here ≡ number_ty k → Fits here v → has_number (is_between (least k) (greatest k)) (value_of v) ≡ true
   bounded k is h = sym (in_bounds k (value_of v)) ∙ moved (number_ty k) is h
 
   pub number_form : (k : NumberType) → here ≡ number_ty k → Fits here v → has_number (λ _. true) (value_of v) ≡ true
-  number_form k is h = is_number (within (least k) (greatest k)) (value_of v) (bounded k is h)
+  number_form k is h = is_number (is_between (least k) (greatest k)) (value_of v) (bounded k is h)
 
   pub number_bounds : (k : NumberType) (z : ℤ) → here ≡ number_ty k → Fits here v → v ≡ value.Num z → IsOf k z
   number_bounds k z is h same =
-      between (least k) (greatest k) z (sym (ap (has_number (within (least k) (greatest k))) (ap value_of same ∙ value_of-Num z)) ∙ bounded k is h)
+      between (least k) (greatest k) z (sym (ap (has_number (is_between (least k) (greatest k))) (ap value_of same ∙ value_of-Num z)) ∙ bounded k is h)
 
   pub text_form : here ≡ ty.Str → Fits here v → has_bytes (λ _. true) (value_of v) ≡ true
   text_form is h = is_text (list_all (λ b. nat_lt b (2 ^ 8))) (value_of v) (sym (ap (λ t. fits_value t (value_of v)) ty_of-Str) ∙ moved ty.Str is h)

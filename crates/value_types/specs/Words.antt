@@ -1,11 +1,6 @@
 -- Small words on values.
-use Rattle.std.specs.Prelude.{ℤ, Bool, false, None, Option, Some, true}
-use Rattle.agg_terms.specs.Values.{Nil, Num, Value}
-
--- whether a value is NULL
-abbrev pub is_null : Value → Bool
-is_null Nil = true
-is_null _ = false
+use Rattle.std.specs.Prelude.{ℤ, None, Option, Some}
+use Rattle.agg_terms.specs.Values.{Num, Value}
 
 -- the number that a value is
 abbrev pub number : Value → Option ℤ

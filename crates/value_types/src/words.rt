@@ -1,6 +1,7 @@
 //! Small questions to a value or a type.
 ghost use Rattle.std.specs.Prelude.{◌≡◌, None, Some, OnSome, IfNone};
 ghost use Rattle.agg_terms.specs.Types as types;
+ghost use Rattle.agg_terms.specs.Values as values;
 ghost use Rattle.value_types.specs.Folds.{ty_of, value_of};
 ghost use Rattle.value_types.specs.Words as words;
 
@@ -8,7 +9,7 @@ use crate::{Ty, Value};
 
 /// Whether a value is NULL.
 pub fn is_nil(value: &Value) -> bool
-    ensures { result ≡ words.is_null (value_of value.now) }
+    ensures { result ≡ values.is_null (value_of value.now) }
 {
     match value {
         Value::Nil => true,

@@ -7,8 +7,8 @@ use Rattle.agg_defs.specs.declared.reached.Passed.{Passed}
 use Rattle.value_types.specs.Folds.{ty_of}
 
 -- these types in the definitions
-abbrev pub types_of : List Reached → List terms.Ty
-types_of args = map (λ (a : Reached). ty_of a.ty.now) args
+abbrev pub reached_types : List Reached → List terms.Ty
+reached_types args = map (λ (a : Reached). ty_of a.ty.now) args
 
 -- the part of a type that a suffix passes inward
 abbrev pub part_of : Passed → terms.Ty → terms.Ty

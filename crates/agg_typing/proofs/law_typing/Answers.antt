@@ -1,5 +1,6 @@
 use Rattle.agg_typing.proofs.Reading.{read-spelled, read-is-spelled, spelled-once}
 use Rattle.agg_typing.proofs.Allowed.{call_is_legal, state_is_legal}
+use Rattle.agg_typing.proofs.Same.{chain_exact, chain_same}
 use Rattle.agg_typing.proofs.Soundness as soundness
 use Rattle.agg_typing.proofs.Inward as inward
 use Rattle.agg_typing.proofs.Results.{result_legal, state_type_legal}
@@ -15,6 +16,9 @@ returns-clause-read_is_spelled c = λ name shape h. read-is-spelled name shape h
 
 pub returns-clause-spelled_once : goal.returns-clause-spelled_once
 returns-clause-spelled_once c = λ f g ss ts h. spelled-once f g ss ts h
+
+pub returns-clause-chain_test_is_exact : goal.returns-clause-chain_test_is_exact
+returns-clause-chain_test_is_exact c = λ d e. (λ h. chain_exact d e h, λ h. chain_same d e h)
 
 pub returns-clause-allowed_is_legal : goal.returns-clause-allowed_is_legal
 returns-clause-allowed_is_legal c = λ reads owes name params args d h. call_is_legal reads owes name params args d h

@@ -3,10 +3,10 @@ use Rattle.std.specs.Prelude.{◌≡◌, ℕ, true, false, List, [], ◌∷◌, 
 use Rattle.std.specs.Str.Parse.{digits_value}
 use Rattle.chain_params.specs.Literals.{literal_of}
 use Rattle.line_tokens.specs.Tokens.{Token, integer, open_bracket, close_bracket}
-use Rattle.type_names.specs.TypeTexts.{Shape as TypeText, tokens_of, ShapeFits, is_literal}
+use Rattle.type_names.specs.TypeTexts.{WrittenType as TypeText, tokens_of, ShapeFits, is_literal}
 use Rattle.type_shapes.specs.Literals.{has_minus, IsLiteral}
 use Rattle.value_types.specs.declared.literal.Literal.{Literal}
-use Rattle.line_forms.specs.Letters.{Letter, Sign, sign, Name, name_part, Leads, divided, in_brackets, Every, Each}
+use Rattle.line_forms.specs.Letters.{Letter, Sign, sign, Name, name_part, Leads, divided, in_brackets, Every, EachPair}
 use Rattle.line_forms.specs.Tables.{ColumnText, column_signs, ColumnFits, IsColumnOf, IsTable, AreColumns}
 use Rattle.line_forms.specs.Selects.{Params, no_params, params, CallText, names_signs, literal_part, call_signs, group_signs, ParamsFit, CallFits, IsCallOf, AreParams, SelectText, IsSelectOf, HasCalls, select_signs}
 use Rattle.line_forms.specs.ScriptLines.{LineText, keyword_of, behind_keyword, LineFits, IsScriptLine, IsLineOf}
@@ -69,7 +69,7 @@ IsItem {T} fits stands signs v before behind = (t : T) × fits t × stands t v �
 
 -- some of them, one or more, divided by commas
 abbrev pub AreItems : {T V : Type 0} → (T → Type 0) → (T → V → Type 0) → (T → List Sign) → List V → List Letter → List Letter → Type 0
-AreItems {T} fits stands signs vs before behind = (t : T) × (ts : List T) × Every fits (t ∷ ts) × Each stands (t ∷ ts) vs × Leads (divided (map signs (t ∷ ts))) before behind
+AreItems {T} fits stands signs vs before behind = (t : T) × (ts : List T) × Every fits (t ∷ ts) × EachPair stands (t ∷ ts) vs × Leads (divided (map signs (t ∷ ts))) before behind
 
 abbrev pub NameFits : Name → Type 0
 NameFits n = Unit {0}
@@ -117,7 +117,7 @@ AreArguments names before behind = Leads (names_signs (map name_of names) ++ (si
 -- literals, one or more, the bracket that closes them and the one that opens the arguments
 abbrev pub AreParamsRead : List Literal → List Letter → List Letter → Type 0
 AreParamsRead read before behind =
-    (t : Token) × (ts : List Token) × Every LiteralFits (t ∷ ts) × Each IsLiteralOf (t ∷ ts) read × Leads (divided (map literal_part (t ∷ ts)) ++ (sign close_bracket ∷ sign open_bracket ∷ [])) before behind
+    (t : Token) × (ts : List Token) × Every LiteralFits (t ∷ ts) × EachPair IsLiteralOf (t ∷ ts) read × Leads (divided (map literal_part (t ∷ ts)) ++ (sign close_bracket ∷ sign open_bracket ∷ [])) before behind
 
 -- Behind the first bracket of a call: its arguments, or its parameters and then its arguments.
 abbrev pub inside_signs : Params → List Name → List Sign

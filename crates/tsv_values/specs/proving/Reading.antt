@@ -9,7 +9,7 @@ use Rattle.value_types.specs.declared.value.Value.{Value}
 use Rattle.tsv_text.specs.declared.fault.TextFault.{TextFault}
 use Rattle.tsv_text.specs.declared.fault.TextFault.TheVariants as text
 use Rattle.field_texts.specs.Faults.{IsFieldFault}
-use Rattle.field_texts.specs.Syntax.{shape_of}
+use Rattle.field_texts.specs.Syntax.{form_of}
 use Rattle.scalar_texts.specs.States.{ReadsStates}
 use Rattle.scalar_texts.specs.declared.fault.FieldFault.{FieldFault}
 use Rattle.scalar_texts.specs.declared.fault.FieldFault.TheVariants.{NotNumber, OutOfMemory, Text}
@@ -88,7 +88,7 @@ IsWholeRead told (Err (Refused fault)) = (said : Said) → told said → said �
 -- The same with the place of a fault of syntax.
 abbrev pub IsNestedAnswer : ReadsStates → Ty → List ℕ → Result Value Refusal → Type 0
 IsNestedAnswer reads ty field (Ok value) = FieldSays reads ty (Ok (value_of value)) field
-IsNestedAnswer reads ty field (Err (refusal.Syntax at)) = IsFieldFault (shape_of ty) field (Some at)
+IsNestedAnswer reads ty field (Err (refusal.Syntax at)) = IsFieldFault (form_of ty) field (Some at)
 IsNestedAnswer reads ty field (Err (refusal.Element fault)) = IsTold (λ said. FieldSays reads ty said field) (Err fault)
 
 -- The bytes of a number, and what follows them.

@@ -2,9 +2,12 @@ use Rattle.std.proofs.Common.{◌≡◌, ℕ, List, sym, ap, ◌∙◌}
 use Rattle.std.specs.Option.{option_map}
 use Rattle.type_shapes.specs.Shapes.{Shape}
 use Rattle.type_shapes.specs.Folds.{shape_of}
-use Rattle.request_lines.proofs.ColumnsRead.{column_read, front_seen}
+use Rattle.request_lines.proofs.ColumnsRead.{column_read, front_seen, type_in_front}
 use Rattle.request_lines.proofs.columns.read_column.Goals as goal
 use Rattle.request_lines.proofs.columns.read_column.Goals.{in-Some, in-None}
+
+pub read_front-requires : goal.read_front-requires
+read_front-requires c = type_in_front c.in_ok-name.ty c.in_ok-left.left c.in_ok-left.ensures.0
 
 pub returns : goal.returns
 returns c =

@@ -10,7 +10,7 @@ use Rattle.request_text.proofs.lines.plan_in.Goals as goal
 pub judge_select-requires-clause-few : goal.judge_select-requires-clause-few
 judge_select-requires-clause-few c = select_few c.args.line.now (select_of c.in-Ok.select) c.requires.line c.in-Ok.ensures
 
-pub returns-in-Ok : goal.returns-in-Ok
-returns-in-Ok c =
+pub returns-in-Ok-clause-judged : goal.returns-in-Ok-clause-judged
+returns-in-Ok-clause-judged c =
     form_told (IsFirstFault IsSelect c.args.line.now) (SpellsSelect c.args.line.now) (judged_select (schema_of c.args.schema.now)) plan_of
-    (select_of c.in-Ok.select) c.judge_select.result c.in-Ok.ensures c.judge_select.ensures
+    (select_of c.in-Ok.select) c.judge_select.result c.in-Ok.ensures c.judge_select.ensures.judged
