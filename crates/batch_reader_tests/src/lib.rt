@@ -9,3 +9,6 @@ mod pieces;
 mod rows;
 #[cfg(test)]
 mod tables;
+mod uses;
+
+pub use uses::judge_twice;

@@ -5,4 +5,4 @@
 mod tests;
 mod uses;
 
-pub use uses::query_of_feeds;
+pub use uses::{query_of_feeds, shape_twice};
