@@ -3,7 +3,7 @@ ghost use Rattle.std.specs.Prelude.{◌≡◌, ◌≤◌, ◌∷◌, [], map};
 ghost use Rattle.key_methods.specs.Kinds.{fit_in, is_plain_number, kind_of, kind_of_one, width_of};
 ghost use Rattle.value_types.specs.Folds.{ty_of};
 
-use crate::number::width;
+use crate::number::number_width;
 use value_types::Ty;
 
 /// The kinds of keys: by the key columns' types.
@@ -65,7 +65,7 @@ fn fit_in_word(types: &[Ty]) -> bool
 {
     let mut room: usize = 16;
     for ty in types {
-        let width = width(ty);
+        let width = number_width(ty);
         if width == 0 {
             return false;
         }

@@ -13,11 +13,14 @@ mod laws;
 mod number;
 mod packing;
 mod unpacking;
+mod writing;
 
 pub use buckets::bucket;
 pub use hash::{hash_behind, hash_of};
 pub use key::Key;
 pub use kind::KeyKind;
 pub use laws::law_keys;
+pub use number::{number_width, number_word};
 pub use packing::pack;
 pub use unpacking::unpack;
+pub use writing::{write_number, write_text};

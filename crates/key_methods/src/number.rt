@@ -13,7 +13,7 @@ use value_types::{Ty, Value};
 
 /// The bytes of a number of the type; 0 where it holds no plain numbers.
 #[tactic(auto, using(value_types::proofs::FoldLaws::ty_laws))]
-pub(crate) fn width(ty: &Ty) -> usize
+pub fn number_width(ty: &Ty) -> usize
     ensures value { result ≡ width_of (ty_of ty.now) }
     ensures bound { result ≤ 8 }
     ensures plain { is_plain_number (ty_of ty.now) ≡ nat_lt 0 result }
@@ -29,7 +29,7 @@ pub(crate) fn width(ty: &Ty) -> usize
 
 /// The number that a number's bytes spell: those of a signed one are in two's complement.
 #[tactic(auto, using(crate::proofs::Numbers::number_laws))]
-fn word_of_number(ty: &Ty, number: i128) -> u64
+pub fn number_word(ty: &Ty, number: i128) -> u64
     requires { spec.IsNumberOf (ty_of ty.now) number }
     ensures { result ≡ spec.word_of (ty_of ty.now) (Num number) }
 {
@@ -50,7 +50,7 @@ pub(crate) fn word_of(ty: &Ty, value: &Value) -> u64
     ensures value { result ≡ spec.word_of (ty_of ty.now) (value_of value.now) }
 {
     match value {
-        Value::Num(number) => word_of_number(ty, *number),
+        Value::Num(number) => number_word(ty, *number),
         _ => 0,
     }
 }

@@ -1,21 +1,19 @@
 //! A tuple as its key.
 ghost use Rattle.std.specs.Prelude.{◌≡◌, ◌≤◌, ◌<◌, ◌+◌, ◌*◌, ◌^◌, ◌++◌, map, length, true, IfOk, OnOk};
 ghost use Rattle.agg_meaning.specs.Feeds.{AreValues};
-ghost use Rattle.agg_terms.specs.Trees.{IsValue};
 ghost use Rattle.key_methods.specs.Figures.{worth};
-ghost use Rattle.std.specs.Int.{bytes_high_first};
 ghost use Rattle.key_methods.specs.KeyBytes as spec;
 ghost use Rattle.key_methods.specs.declared.kind.KeyKind.TheVariants.{NoKey, Packed128};
 ghost use Rattle.key_methods.specs.Keys.{IsKey, key_of, key_with};
 ghost use Rattle.key_methods.specs.Kinds.{AreKeyTypes, fit_in, kind_of, total_width};
-ghost use Rattle.agg_typing.specs.Kinds.{is_number_or_text};
 ghost use Rattle.value_types.specs.Folds.{ty_of, value_of};
 
-use crate::number::{width, word_of};
+use crate::number::{number_width, word_of};
+use crate::writing::{text_of, write_value};
 use crate::{Key, KeyKind};
 use std::alloc::Global;
 use value_lists::{Bytes, OutOfMemory, Seq};
-use value_types::{Ty, Value, is_nil};
+use value_types::{Ty, Value};
 
 /// The key of a tuple of values of the key columns. Different tuples have different keys (`law_keys`).
 ///
@@ -124,19 +122,9 @@ fn side_by_side(types: &[Ty], values: &[Value]) -> Joined
     let mut packed = Joined { word: 0, width: 0 };
     for i in 0..types.len() {
         let ty = &types[i];
-        packed = behind(packed, word_of(ty, &values[i]), width(ty));
+        packed = behind(packed, word_of(ty, &values[i]), number_width(ty));
     }
     packed
-}
-
-/// The bytes of a String.
-fn text_of(value: &Value) -> &[u8]
-    ensures { result.now ≡ spec.text_of (value_of value.now) }
-{
-    match value {
-        Value::Bytes(bytes) => bytes.as_slice(),
-        _ => &[],
-    }
 }
 
 /// The bytes of a String that is the whole key.
@@ -160,42 +148,4 @@ fn written(alloc: Global, types: &[Ty], values: &[Value]) -> Result<Bytes, OutOf
         write_value(&mut out, &types[i], &values[i])?;
     }
     Ok(Seq::from_vec(out))
-}
-
-/// Writes a value behind others.
-fn write_value(out: &mut Vec<u8>, ty: &Ty, value: &Value) -> Result<(), OutOfMemory>
-    requires ty { is_number_or_text (ty_of ty.now) ≡ true }
-    requires value { IsValue (ty_of ty.now) (value_of value.now) }
-    ensures { OnOk result (out.new.items ≡ out.old.items ++ spec.value_bytes (ty_of ty.now) (value_of value.now)) }
-{
-    match ty {
-        Ty::Str => write_text(out, text_of(value)),
-        Ty::Nullable(of) => {
-            if is_nil(value) {
-                out.push(0)?;
-                return Ok(());
-            }
-            out.push(1)?;
-            write_value(out, of.get(), value)
-        }
-        _ => write_number(out, word_of(ty, value), width(ty)),
-    }
-}
-
-fn write_text(out: &mut Vec<u8>, text: &[u8]) -> Result<(), OutOfMemory>
-    ensures { OnOk result (out.new.items ≡ out.old.items ++ spec.text_bytes text.now) }
-{
-    write_number(out, text.len() as u64, 8)?;
-    out.extend_from_slice(text)?;
-    Ok(())
-}
-
-/// Writes the last `width` bytes of a number.
-#[tactic(auto, using(crate::proofs::Figures::figure_laws))]
-fn write_number(out: &mut Vec<u8>, word: u64, width: usize) -> Result<(), OutOfMemory>
-    requires { width ≤ 8 }
-    ensures { OnOk result (out.new.items ≡ out.old.items ++ bytes_high_first width word) }
-{
-    out.extend_from_slice(&word.to_be_bytes()[8 - width..])?;
-    Ok(())
 }

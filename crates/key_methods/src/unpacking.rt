@@ -9,7 +9,7 @@ ghost use Rattle.key_methods.specs.Kinds.{AreKeyTypes, is_plain_number, kind_of}
 ghost use Rattle.key_methods.specs.Tuples.{IsKeyOf, Undoes};
 ghost use Rattle.value_types.specs.Folds.{ty_of, value_of};
 
-use crate::number::{number_of, width, worth};
+use crate::number::{number_of, number_width, worth};
 use crate::{Key, KeyKind};
 use std::alloc::Global;
 use value_lists::{OutOfMemory, Seq};
@@ -126,7 +126,7 @@ fn read_number<'b>(ty: &Ty, bytes: &'b [u8]) -> (Value, &'b [u8])
     requires { is_plain_number (ty_of ty.now) ≡ true }
     ensures { (value_of result.0, result.1.now) ≡ spec.value_front (ty_of ty.now) bytes.now }
 {
-    let (front, rest) = bytes.split_at(width(ty).min(bytes.len()));
+    let (front, rest) = bytes.split_at(number_width(ty).min(bytes.len()));
     (Value::Num(number_of(ty, worth(front))), rest)
 }
 

@@ -17,7 +17,7 @@ behind-packed-requires-clause-below c =
     let p = here c.args.types.now c.args.values.now c.loop-i.i c.index-types-i.result c.index-values-i.result c.loop-i-test.true c.requires.values c.index-types-i.is c.index-values-i.is
     (λ us ws. Packing (map ty_of us) (map value_of ws) word width most all) c.loop-i.invariant in
     let below = step_word _ _ _ _ word width most all p in
-    subst (λ n. c.word_of.result < 256 ^ n) (sym c.width.ensures.value) (subst (λ n. n < 256 ^ width_of (ty_of c.index-types-i.result)) (sym c.word_of.ensures.value) below)
+    subst (λ n. c.word_of.result < 256 ^ n) (sym c.number_width.ensures.value) (subst (λ n. n < 256 ^ width_of (ty_of c.index-types-i.result)) (sym c.word_of.ensures.value) below)
 
 pub loop-i-preserved : goal.loop-i-preserved
 loop-i-preserved c =
@@ -27,4 +27,4 @@ loop-i-preserved c =
     let width = c.loop-i.packed.width in
     let p = here c.args.types.now c.args.values.now c.loop-i.i c.index-types-i.result c.index-values-i.result c.loop-i-test.true c.requires.values c.index-types-i.is c.index-values-i.is
     (λ us ws. Packing (map ty_of us) (map value_of ws) word width most all) c.loop-i.invariant in
-    next _ _ _ _ word width most all _ _ _ _ p c.behind-packed.ensures.word c.behind-packed.ensures.width c.word_of.ensures.value c.width.ensures.value
+    next _ _ _ _ word width most all _ _ _ _ p c.behind-packed.ensures.word c.behind-packed.ensures.width c.word_of.ensures.value c.number_width.ensures.value

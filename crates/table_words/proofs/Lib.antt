@@ -1,0 +1,2 @@
+pub mod KeysWith
+pub mod Fed
