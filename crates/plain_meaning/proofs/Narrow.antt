@@ -37,7 +37,7 @@ value_small (terms.Whole n) v h k = subst IsSmall (sym k.1) (whole_small n k.0 h
 value_small (terms.Signed w) v h k = subst IsSmall (sym k.1) (signed_small w k.0 h k.2)
 value_small terms.Str v h k = subst IsSmall (sym k.1) tt
 value_small (terms.Arr t) v h k = subst IsSmall (sym k.1) (all_small (IsValue t) (λ w l. value_small t w h l) k.0 k.2)
-value_small (terms.MapTy key t) v h k = subst IsSmall (sym k.1) (held_small (IsPlain key) (IsValue t) (λ w l. value_small t w h l) k.0 k.2)
+value_small (terms.MapTy key t) v h k = subst IsSmall (sym k.1) (held_small (IsPlain key) (IsValue t) (λ w l. value_small t w h.1 l) k.0 k.2)
 value_small (terms.Nullable t) v h k = elim k [ inl e ↦ subst IsSmall (sym e) tt | inr l ↦ value_small t v h l ]
 value_small (terms.StateOf c ts) v h k = subst IsSmall (sym k.1) tt
 
