@@ -7,3 +7,6 @@ mod Crossing
 mod Places
 mod Blocks
 mod Pending
+mod Kept
+mod Streams
+mod Batches

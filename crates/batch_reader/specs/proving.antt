@@ -4,3 +4,5 @@ pub mod Faults
 pub mod Joining
 pub mod Pieces
 pub mod Pushing
+pub mod Keeping
+pub mod Streaming

@@ -81,7 +81,7 @@ texts_filled old new field (Ok false) h = ap texts_seen h
 texts_filled old new field (Err fault) h = ap texts_seen h
 
 -- NULL, and a value in a column that may hold it
-unnulled : (reads : ReadsStates) (t : terms.Ty) (field : List ℕ) (v : Value) → is_null_text field ≡ false → IsFilledAnswer reads t field (Ok v) → IsFieldAnswer reads t field (Ok v)
+pub unnulled : (reads : ReadsStates) (t : terms.Ty) (field : List ℕ) (v : Value) → is_null_text field ≡ false → IsFilledAnswer reads t field (Ok v) → IsFieldAnswer reads t field (Ok v)
 unnulled reads t field v some h = subst (λ b. MatchBool b (Agrees (null_answer t) (Ok v)) (IsFilledAnswer reads t field (Ok v))) (sym some) h
 
 pub filled_field : (old new : TypedValues) (field : List ℕ) (r : Result Bool OutOfMemory) → is_null_text field ≡ false → TakesFilled old field new r → TakesField old field new r

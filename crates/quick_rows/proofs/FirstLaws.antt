@@ -32,7 +32,7 @@ texts_first old new text r h = first_by TakesText TakesFilled texts_seen old new
 not_slash : (b c : ℕ) → eqb b 92 ≡ false → is_null_text (b ∷ c ∷ []) ≡ false
 not_slash b c h = rw h refl
 
-number_some : (field : List ℕ) → IsNumber field → is_null_text field ≡ false
+pub number_some : (field : List ℕ) → IsNumber field → is_null_text field ≡ false
 number_some [] h = refl
 number_some (b ∷ []) h = refl
 number_some (b ∷ c ∷ []) (inl h) = not_slash b c (grind (arith, nat_tests))
@@ -44,7 +44,7 @@ not_so : (b : Bool) → not b ≡ true → b ≡ false
 not_so true h = cc
 not_so false h = refl
 
-plain_some : (field : List ℕ) → is_plain field ≡ true → is_null_text field ≡ false
+pub plain_some : (field : List ℕ) → is_plain field ≡ true → is_null_text field ≡ false
 plain_some [] h = refl
 plain_some (b ∷ []) h = refl
 plain_some (b ∷ c ∷ []) h = not_slash b c (not_so (eqb b 92) (and_parts (not (eqb b 92)) (is_plain (c ∷ [])) h).0)

@@ -6,3 +6,5 @@ pub mod Lines
 pub mod ListLaws
 pub mod Numbers
 pub mod RowLaws
+pub mod Walks
+pub mod KeptRows

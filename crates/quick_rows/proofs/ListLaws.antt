@@ -247,7 +247,7 @@ list_filled starts after old new field e cut marked end h =
     )
 
 -- an array isn't `\N`
-array_some : (field inside : List ℕ) → field ≡ 91 ∷ (inside ++ 93 ∷ []) → is_null_text field ≡ false
+pub array_some : (field inside : List ℕ) → field ≡ 91 ∷ (inside ++ 93 ∷ []) → is_null_text field ≡ false
 array_some field [] is = ap is_null_text is
 array_some field (b ∷ []) is = ap is_null_text is
 array_some field (b ∷ c ∷ inside) is = ap is_null_text is

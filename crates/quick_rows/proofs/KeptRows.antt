@@ -1,0 +1,197 @@
+-- A row of which some fields are taken and the others walked.
+use Rattle.std.proofs.Common.{◌≡◌, add-one, ℕ, suc, zero, ◌+◌, ◌≤◌, ◌<◌, Bool, true, false, List, [], ◌∷◌, ◌++◌, length, map, get_or, set, drop, Option, Some, None, Bor, ap, sym, subst, ◌∙◌, refl, arith}
+use Rattle.std.specs.Prelude.{Ok}
+use Rattle.std.proofs.lemmas.List.{append_assoc, append-nil, length_push}
+use Rattle.value_types.specs.declared.ty.Ty.{Ty}
+use Rattle.value_types.specs.declared.value.Value.{Value}
+use Rattle.tsv_text.specs.Lines.{fields_of}
+use Rattle.typed_columns.specs.TypedValues.{TypedValues}
+use Rattle.typed_columns.specs.Growth.{trim, Fits}
+use Rattle.columns.specs.Rows.{AreLong, RowFits, pushed}
+use Rattle.columns.proofs.Rows.{length_pushed, pushed_none, trimmed}
+use Rattle.quick_rows.specs.Taking.{AreSaid, Says, TakesField}
+use Rattle.quick_rows.specs.Keeping.{AreSteps, IsStep, kept}
+use Rattle.quick_rows.specs.proving.Walking.{FillsKept, WalksStep}
+use Rattle.quick_rows.specs.declared.field.Front.TheVariants as front
+use Rattle.quick_rows.specs.declared.walk.Step.{Step}
+use Rattle.quick_rows.specs.declared.walk.Step.TheVariants as step
+use Rattle.value_types.specs.declared.ty.Ty.TheVariants as ty
+use Rattle.quick_rows.proofs.Walks.{step_at, steps_long}
+use Rattle.quick_rows.proofs.RowLaws.{IsTaken, field_and_left, left_fields, pushed_here, pushed_push}
+
+kept_none : (keep : List Bool) → kept {A = Value} keep [] ≡ []
+kept_none [] = refl
+kept_none (k ∷ keep) = refl
+
+-- what a mark keeps of one value more
+pub kept_yes : (keep : List Bool) (row : List Value) (v : Value) (e : Bool) → length row < length keep → get_or keep (length row) e ≡ true → kept keep (row ++ v ∷ []) ≡ kept keep row ++ v ∷ []
+kept_yes [] row v e h is = absurd (omega arith)
+kept_yes (true ∷ keep) [] v e h is = ap (λ (more : List Value). v ∷ more) (kept_none keep)
+kept_yes (false ∷ keep) [] v e h is = cc
+kept_yes (true ∷ keep) (w ∷ row) v e h is = ap (λ (more : List Value). w ∷ more) (kept_yes keep row v e (omega arith) is)
+kept_yes (false ∷ keep) (w ∷ row) v e h is = kept_yes keep row v e (omega arith) is
+
+pub kept_no : (keep : List Bool) (row : List Value) (v : Value) (e : Bool) → length row < length keep → get_or keep (length row) e ≡ false → kept keep (row ++ v ∷ []) ≡ kept keep row
+kept_no [] row v e h is = absurd (omega arith)
+kept_no (true ∷ keep) [] v e h is = cc
+kept_no (false ∷ keep) [] v e h is = kept_none keep
+kept_no (true ∷ keep) (w ∷ row) v e h is = ap (λ (more : List Value). w ∷ more) (kept_no keep row v e (omega arith) is)
+kept_no (false ∷ keep) (w ∷ row) v e h is = kept_no keep row v e (omega arith) is
+
+-- the kept type at a place that is kept
+pub kept_at : (keep : List Bool) (types : List Ty) (row : List Value) (e : Bool) → length keep ≡ length types → length row < length types → get_or keep (length row) e ≡ true
+    → (t : Ty) → (length (kept keep row) < length (kept keep types)) × (get_or (kept keep types) (length (kept keep row)) t ≡ get_or types (length row) t)
+kept_at [] [] row e same h is t = absurd (omega arith)
+kept_at [] (u ∷ types) row e same h is t = absurd (omega arith)
+kept_at (k ∷ keep) [] row e same h is t = absurd (omega arith)
+kept_at (true ∷ keep) (u ∷ types) [] e same h is t = (omega arith, refl)
+kept_at (false ∷ keep) (u ∷ types) [] e same h is t = cc
+kept_at (true ∷ keep) (u ∷ types) (w ∷ row) e same h is t = let more = kept_at keep types row e (omega arith) (omega arith) is t in (omega (arith, more.0), more.1)
+kept_at (false ∷ keep) (u ∷ types) (w ∷ row) e same h is t = kept_at keep types row e (omega arith) (omega arith) is t
+
+-- the first i fields are values, the kept ones of them stand in their columns, and with values of the other fields they are a row of the line
+pub record FilledKept (types : List Ty) (keep : List Bool) (columns now : List TypedValues) (line : List ℕ) (i at : ℕ) (left : Option (Bor (List ℕ))) : Type 0 where
+  pub row : List Value
+  pub count : length row ≡ i
+  pub places : at ≡ length (kept keep row)
+  pub stand : now ≡ pushed columns (kept keep row)
+  pub rest : (tail : List Value) → IsTaken (drop i types) (left_fields left) tail → IsTaken types (fields_of line) (row ++ tail)
+
+pub filled_none : (types : List Ty) (keep : List Bool) (columns : List TypedValues) (line : Bor (List ℕ)) → FilledKept types keep columns columns line.now 0 0 (Some line)
+filled_none types keep columns line = record {
+  row = [];
+  count = refl;
+  places = ap length (sym (kept_none keep));
+  stand = sym (ap (pushed columns) (kept_none keep) ∙ pushed_none columns);
+  rest = λ tail h. h;
+}
+
+type_here : (ts : List Ty) (i : ℕ) (t : Ty) → i < length ts → t ≡ get_or ts i t → drop i ts ≡ t ∷ drop (suc i) ts
+type_here [] i t h at = absurd (omega arith)
+type_here (u ∷ ts) zero t h at = ap (λ x. x ∷ ts) (sym at)
+type_here (u ∷ ts) (suc i) t h at = type_here ts i t (omega arith) at
+
+-- one value more of the line's row
+rest_more : (types : List Ty) (line : List ℕ) (i : ℕ) (row : List Value) (left after : Option (Bor (List ℕ))) (text field : List ℕ) (t : Ty) (v : Value)
+    → ((tail : List Value) → IsTaken (drop i types) (left_fields left) tail → IsTaken types (fields_of line) (row ++ tail))
+    → left_fields left ≡ fields_of text → fields_of text ≡ field ∷ left_fields after → i < length types → t ≡ get_or types i t → Fits t v → Says t field v
+    → (tail : List Value) → IsTaken (drop (i + 1) types) (left_fields after) tail → IsTaken types (fields_of line) ((row ++ v ∷ []) ++ tail)
+rest_more types line i row left after text field t v rest here split h at fits said tail g =
+    subst (IsTaken types (fields_of line)) (sym (append_assoc row (v ∷ []) tail))
+    (rest (v ∷ tail) (
+      subst (λ ts. RowFits ts (v ∷ tail)) (sym (type_here types i t h at)) (fits, subst (λ n. RowFits (drop n types) tail) (add-one i) g.0),
+      subst (λ fs. AreSaid (drop i types) fs (v ∷ tail)) (sym (here ∙ split))
+          (subst (λ ts. AreSaid ts (field ∷ left_fields after) (v ∷ tail)) (sym (type_here types i t h at))
+          (said, subst (λ n. AreSaid (drop n types) (left_fields after) tail) (add-one i) g.1)),
+    ))
+
+type_of_column : (cs : List TypedValues) (i : ℕ) (e : TypedValues) → i < length cs → e ≡ get_or cs i e → e.ty ≡ get_or (map (λ c. c.ty) cs) i e.ty
+type_of_column [] i e h at = absurd (omega arith)
+type_of_column (d ∷ cs) zero e h at = ap (λ c. c.ty) at
+type_of_column (d ∷ cs) (suc i) e h at = type_of_column cs i e (omega arith) at
+
+long_map : (cs : List TypedValues) → length (map (λ c. c.ty) cs) ≡ length cs
+long_map [] = refl
+long_map (c ∷ cs) = omega (arith, long_map cs)
+
+-- a column is there for a field that is kept
+pub place_within : (types : List Ty) (keep : List Bool) (columns now : List TypedValues) (line : List ℕ) (i at : ℕ) (left : Option (Bor (List ℕ))) (b : Bool) (t : Ty) → FilledKept types keep columns now line i at left
+    → length keep ≡ length types → map (λ c. c.ty) columns ≡ kept keep types → i < length types → get_or keep i b ≡ true → at < length columns
+place_within types keep columns now line i at left b t f same of h marked =
+    let here = kept_at keep types f.row b same (omega (arith, f.count)) (ap (λ n. get_or keep n b) f.count ∙ marked) t in
+    omega (arith, here.0, f.places, ap length of, long_map columns)
+
+pub column_within : (types : List Ty) (keep : List Bool) (columns now : List TypedValues) (line : List ℕ) (i at : ℕ) (left : Option (Bor (List ℕ))) (b : Bool) (t : Ty) → FilledKept types keep columns now line i at left
+    → length keep ≡ length types → map (λ c. c.ty) columns ≡ kept keep types → i < length types → get_or keep i b ≡ true → at < length now
+column_within types keep columns now line i at left b t f same of h marked =
+    omega (arith, place_within types keep columns now line i at left b t f same of h marked, ap length f.stand, length_pushed columns (kept keep f.row))
+
+pub filled_kept : (types : List Ty) (keep : List Bool) (columns now : List TypedValues) (line : List ℕ) (i at : ℕ) (left after : Option (Bor (List ℕ))) (text field : List ℕ) (b : Bool) (e c : TypedValues) →
+    FilledKept types keep columns now line i at left → length keep ≡ length types → map (λ c. c.ty) columns ≡ kept keep types → left_fields left ≡ fields_of text → fields_of text ≡ field ∷ left_fields after →
+    i < length types → get_or keep i b ≡ true → e ≡ get_or now at e → TakesField e field c (Ok true) → FilledKept types keep columns (set now at c) line (i + 1) (at + 1) after
+filled_kept types keep columns now line i at left after text field b e c f same of here split h marked taken_at taken =
+    let v = taken.0 in
+    let marked_row = ap (λ n. get_or keep n b) f.count ∙ marked in
+    let grown = kept_yes keep f.row v b (omega (arith, f.count, same)) marked_row in
+    let within = place_within types keep columns now line i at left b e.ty f same of h marked in
+    let old = taken_at ∙ ap (λ xs. get_or xs at e) f.stand ∙ pushed_here columns (kept keep f.row) at e (sym f.places) in
+    let ty_is : e.ty ≡ get_or types i e.ty =
+    type_of_column columns at e within old ∙ ap (λ ts. get_or ts at e.ty) of ∙ ap (λ n. get_or (kept keep types) n e.ty) f.places
+    ∙ (kept_at keep types f.row b same (omega (arith, f.count)) marked_row e.ty).1 ∙ ap (λ n. get_or types n e.ty) f.count in
+    record {
+      row = f.row ++ v ∷ [];
+      count = length_push f.row v ∙ ap (λ n. n + 1) f.count;
+      places = omega (arith, f.places, ap length grown, length_push (kept keep f.row) v);
+      stand = ap (λ xs. set xs at c) f.stand ∙ pushed_push columns (kept keep f.row) at c e v (sym f.places) within old taken.3 ∙ ap (pushed columns) (sym grown);
+      rest = rest_more types line i f.row left after text field e.ty v f.rest here split h ty_is taken.1 taken.2;
+    }
+
+pub filled_walked : (types : List Ty) (keep : List Bool) (columns now : List TypedValues) (line : List ℕ) (i at : ℕ) (left after : Option (Bor (List ℕ))) (text field : List ℕ) (b : Bool) (t : Ty) (v : Value) →
+    FilledKept types keep columns now line i at left → length keep ≡ length types → left_fields left ≡ fields_of text → fields_of text ≡ field ∷ left_fields after →
+    i < length types → get_or keep i b ≡ false → t ≡ get_or types i t → Fits t v → Says t field v → FilledKept types keep columns now line (i + 1) at after
+filled_walked types keep columns now line i at left after text field b t v f same here split h marked ty_is fits said =
+    let left_out = kept_no keep f.row v b (omega (arith, f.count, same)) (ap (λ n. get_or keep n b) f.count ∙ marked) in
+    record {
+      row = f.row ++ v ∷ [];
+      count = length_push f.row v ∙ ap (λ n. n + 1) f.count;
+      places = f.places ∙ ap length (sym left_out);
+      stand = f.stand ∙ ap (pushed columns) (sym left_out);
+      rest = rest_more types line i f.row left after text field t v f.rest here split h ty_is fits said;
+    }
+
+-- by the steps of the columns
+pub mark_of : (types : List Ty) (keep : List Bool) (steps : List Step) (i : ℕ) (b : Bool) (s : Step) → AreSteps types keep steps → i < length types → get_or steps i s ≡ step.Keep → get_or keep i b ≡ true
+mark_of types keep steps i b s are h is = subst (λ p. IsStep (get_or types i ty.Str) (get_or keep i b) p) is (step_at types keep steps i ty.Str b s are h)
+
+here_too : (ts : List Ty) (i : ℕ) (t : Ty) → i < length ts → get_or ts i t ≡ get_or ts i (get_or ts i t)
+here_too [] i t h = absurd (omega arith)
+here_too (u ∷ ts) zero t h = refl
+here_too (u ∷ ts) (suc i) t h = grow u ts i t (here_too ts i t (omega arith))
+  where
+    grow : (u : Ty) (ts : List Ty) (i : ℕ) (t : Ty) → get_or ts i t ≡ get_or ts i (get_or ts i t) → get_or (u ∷ ts) (suc i) t ≡ get_or (u ∷ ts) (suc i) (get_or (u ∷ ts) (suc i) t)
+    grow u ts i t e = e
+
+pub filled_step : (types : List Ty) (keep : List Bool) (steps : List Step) (columns now : List TypedValues) (line : List ℕ) (i at : ℕ) (left after : Option (Bor (List ℕ))) (text : List ℕ) (s : Step) →
+    FilledKept types keep columns now line i at left → AreSteps types keep steps → left_fields left ≡ fields_of text → i < length types → WalksStep (get_or steps i s) text (front.Taken after) →
+    FilledKept types keep columns now line (i + 1) at after
+filled_step types keep steps columns now line i at left after text s f are here h walks =
+    let t = get_or types i ty.Str in
+    let walked = walks t (get_or keep i false) (step_at types keep steps i ty.Str false s are h) in
+    filled_walked types keep columns now line i at left after text walked.1.0 false t walked.1.2 f (steps_long types keep steps are).0 here (field_and_left text walked.1.0 after walked.1.1) h walked.0
+    (here_too types i ty.Str h) walked.1.3 walked.1.4
+
+-- the same under other names
+pub filled_as : (types : List Ty) (keep : List Bool) (columns now same : List TypedValues) (line : List ℕ) (i at here : ℕ) (left behind : Option (Bor (List ℕ))) → same ≡ now → here ≡ at → behind ≡ left →
+    FilledKept types keep columns now line i at left → FilledKept types keep columns same line i here behind
+filled_as types keep columns now same line i at here left behind same_is here_is behind_is f =
+    subst (λ cs. FilledKept types keep columns cs line i here behind) (sym same_is)
+    (subst (λ n. FilledKept types keep columns now line i n behind) (sym here_is) (subst (λ o. FilledKept types keep columns now line i at o) (sym behind_is) f))
+
+none_left : (ts : List Ty) (i : ℕ) → length ts ≤ i → drop i ts ≡ []
+none_left [] zero h = refl
+none_left [] (suc i) h = refl
+none_left (t ∷ ts) zero h = absurd (omega arith)
+none_left (t ∷ ts) (suc i) h = none_left ts i (omega arith)
+
+pub filled_all : (count : ℕ) (types : List Ty) (keep : List Bool) (columns now : List TypedValues) (line : List ℕ) (i at : ℕ) (left : Option (Bor (List ℕ))) → FilledKept types keep columns now line i at left →
+    length types ≤ i → left ≡ None → FillsKept count types keep columns line now (Ok true)
+filled_all count types keep columns now line i at left f h none =
+    let whole = f.rest [] (
+      subst (λ ts. RowFits ts []) (sym (none_left types i h)) tt,
+      subst (λ ts. AreSaid ts (left_fields left) []) (sym (none_left types i h)) (subst (λ o. AreSaid [] (left_fields o) []) (sym none) tt),
+    ) in
+    let row = append-nil f.row in
+    (f.row, subst (RowFits types) row whole.0, subst (AreSaid types (fields_of line)) row whole.1, f.stand)
+
+pub unfilled : (count : ℕ) (types : List Ty) (keep : List Bool) (columns now : List TypedValues) (line : List ℕ) (i at : ℕ) (left : Option (Bor (List ℕ))) → FilledKept types keep columns now line i at left →
+    AreLong columns count → map (trim count) now ≡ columns
+unfilled count types keep columns now line i at left f long = ap (map (trim count)) f.stand ∙ trimmed columns (kept keep f.row) count long
+
+-- the kept values of a row that fits
+pub kept_fits : (keep : List Bool) (types : List Ty) (row : List Value) → RowFits types row → RowFits (kept keep types) (kept keep row)
+kept_fits [] types row h = tt
+kept_fits (k ∷ keep) [] [] h = tt
+kept_fits (k ∷ keep) [] (v ∷ row) h = absurd h
+kept_fits (k ∷ keep) (t ∷ types) [] h = absurd h
+kept_fits (true ∷ keep) (t ∷ types) (v ∷ row) h = (h.0, kept_fits keep types row h.1)
+kept_fits (false ∷ keep) (t ∷ types) (v ∷ row) h = kept_fits keep types row h.1

@@ -1,0 +1,73 @@
+-- What it means that a field was judged and not kept.
+use Rattle.std.specs.Prelude.{◌≡◌, ℕ, Bool, true, false, List, [], ◌∷◌, map, Option, Some, None, Result, Ok, Err}
+use Rattle.value_lists.specs.declared.out_of_memory.OutOfMemory.{OutOfMemory}
+use Rattle.value_types.specs.declared.ty.Ty.{Ty}
+use Rattle.value_types.specs.declared.ty.Ty.TheVariants as ty
+use Rattle.value_types.specs.declared.value.Value.{Value}
+use Rattle.tsv_text.specs.Lines.{fields_of}
+use Rattle.field_texts.specs.Syntax.{IsNumber}
+use Rattle.scalar_texts.specs.Numbers.{number_value}
+use Rattle.column_parts.specs.declared.number_type.NumberType.{NumberType}
+use Rattle.column_parts.specs.NumberLists.{IsOf}
+use Rattle.typed_columns.specs.TypedValues.{TypedValues}
+use Rattle.typed_columns.specs.Growth.{AllFit, Fits, trim}
+use Rattle.typed_columns.specs.Views.{number_ty}
+use Rattle.columns.specs.Rows.{RowFits, pushed}
+use Rattle.quick_rows.specs.declared.field.Front.{Front}
+use Rattle.quick_rows.specs.declared.field.Front.TheVariants as front
+use Rattle.quick_rows.specs.declared.walk.Step.{Step}
+use Rattle.quick_rows.specs.declared.walk.Step.TheVariants as step
+use Rattle.quick_rows.specs.Keeping.{IsStep, kept}
+use Rattle.quick_rows.specs.Taking.{AreBytes, AreSaid, IsArrayText, IsFirstField, Says, is_plain}
+
+-- the first field of a text is a value's, and what stands behind its tab is told; or nothing is said
+abbrev pub WalksFirst : Ty → List ℕ → Front → Type 0
+WalksFirst ty text (front.Taken behind) = (field : List ℕ) × IsFirstField text field behind × (v : Value) × Fits ty v × Says ty field v
+WalksFirst ty text front.Irregular = Unit {0}
+
+-- the same, of a column that isn't kept
+abbrev pub WalksKept : Ty → Bool → List ℕ → Front → Type 0
+WalksKept ty keep text (front.Taken behind) = (keep ≡ false) × WalksFirst ty text (front.Taken behind)
+WalksKept ty keep text front.Irregular = Unit {0}
+
+-- the same of a number, of a string and of the elements of an array
+abbrev pub WalksNumber : NumberType → List ℕ → Front → Type 0
+WalksNumber kind text (front.Taken behind) = (field : List ℕ) × IsFirstField text field behind × IsNumber field × IsOf kind (number_value field)
+WalksNumber kind text front.Irregular = Unit {0}
+
+abbrev pub WalksText : List ℕ → Front → Type 0
+WalksText text (front.Taken behind) = (field : List ℕ) × IsFirstField text field behind × (is_plain field ≡ true) × AreBytes field
+WalksText text front.Irregular = Unit {0}
+
+abbrev pub WalksElements : Ty → List ℕ → Front → Type 0
+WalksElements ty text (front.Taken behind) = (field : List ℕ) × IsFirstField text field behind × (vs : List Value) × AllFit ty vs × IsArrayText ty field vs
+WalksElements ty text front.Irregular = Unit {0}
+
+-- numbers of a type, or strings
+abbrev pub element_ty : Option NumberType → Ty
+element_ty (Some kind) = number_ty kind
+element_ty None = ty.Str
+
+-- the same of arrays, and of values or NULL, that aren't kept
+abbrev pub IsArrayStep : Ty → Step → Type 0
+IsArrayStep of (step.Numbers kind) = of ≡ number_ty kind
+IsArrayStep of step.Texts = of ≡ ty.Str
+IsArrayStep of step.Leave = Unit {0}
+IsArrayStep of _ = ⊥
+
+abbrev pub IsNullableStep : Ty → Step → Type 0
+IsNullableStep of (step.NullableNumber kind) = of ≡ number_ty kind
+IsNullableStep of step.NullableText = of ≡ ty.Str
+IsNullableStep of step.Leave = Unit {0}
+IsNullableStep of _ = ⊥
+
+-- a field that is walked is a value of each type whose step this is, and none that is kept is walked
+abbrev pub WalksStep : Step → List ℕ → Front → Type 0
+WalksStep s text f = (t : Ty) (keep : Bool) → IsStep t keep s → WalksKept t keep text f
+
+-- the kept values of the line's row stand at the ends of the columns, or the columns' first values are as before
+abbrev pub FillsKept : ℕ → List Ty → List Bool → List TypedValues → List ℕ → List TypedValues → Result Bool OutOfMemory → Type 0
+FillsKept count types keep columns line after (Ok true) =
+    (row : List Value) × RowFits types row × AreSaid types (fields_of line) row × (after ≡ pushed columns (kept keep row))
+FillsKept count types keep columns line after (Ok false) = map (trim count) after ≡ columns
+FillsKept count types keep columns line after (Err fault) = map (trim count) after ≡ columns
