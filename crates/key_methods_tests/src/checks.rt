@@ -48,7 +48,8 @@ pub fn are_values(types: &[Ty], values: &[Value]) -> bool
 {
     match (types, values) {
         ([], []) => true,
-        ([ty, types @ ..], [value, values @ ..]) => is_value(ty, value) && are_values(types, values),
+        ([ty, types @ ..], [value, values @ ..]) => is_value(ty, value)
+            && are_values(types, values),
         _ => false,
     }
 }
