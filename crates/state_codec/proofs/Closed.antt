@@ -69,7 +69,7 @@ module _ (Q : (X : Type 0) → Reader X → Type 0) (laws : IsClosed Q) where
       (laws.of_list any_length (λ whole e. kept_at whole (is_event n e) event_at)
       (λ e. laws.of_kept (is_event n e) (λ whole. event_at) (laws.of_made an_event (λ whole. both_at (number_at 8) (number_at 4)) (laws.of_both (λ whole. number_at 8) (λ whole. number_at 4) (of_number 8) (of_number 4))))))
 
-  closed_one : (ts : List Ty) → Q Tree (λ whole. one_at whole ts)
+  closed_one : (ts : List Ty) → Q Tree (λ whole. one_at whole (bare (first_type ts)))
   closed_one ts = laws.of_made one_tree (λ whole. flag_at whole (value_at whole (bare (first_type ts)))) (laws.of_flag (λ whole. value_at whole (bare (first_type ts))) (closed_value (bare (first_type ts))))
 
   closed_pair : (ts : List Ty) → Q Tree (λ whole bytes. made (or_empty tuple_tree) (flag_at whole (row_at whole ts) bytes))

@@ -15,7 +15,7 @@ use Rattle.state_texts.proofs.Versions.{byte_is, version_back}
 use Rattle.state_codec.specs.Reading.{Read, ◌>>=◌, place, body_at, whole_of, read_in, reading}
 use Rattle.state_codec.specs.Laws.{IsFinal, Points}
 use Rattle.state_codec.proofs.Exact.{IsExact, Takes}
-use Rattle.state_codec.proofs.Chains.{exact_body}
+use Rattle.state_codec.proofs.ExactChains.{exact_body}
 use Rattle.state_codec.proofs.Whole.{whole_long, whole_takes}
 use Rattle.state_codec.proofs.Steady.{Steady, Stays, IsSteady, steady_body}
 use Rattle.state_codec.proofs.Inside.{IsInside, Inside, StaysInside, inside_body}

@@ -13,7 +13,7 @@ use Rattle.state_texts.specs.Versions.{version_byte, version_of, written}
 use Rattle.state_texts.proofs.Versions.{byte_is, same_version, version_back}
 use Rattle.state_codec.specs.Reading.{Read, ◌>>=◌, place, body_at, whole_of, read_in, reading}
 use Rattle.state_codec.proofs.Exact.{IsExact, Takes, bind_ok, ok_is, done}
-use Rattle.state_codec.proofs.Chains.{exact_body}
+use Rattle.state_codec.proofs.ExactChains.{exact_body}
 
 whole_ok : {X : Type 0} (whole : ℕ) (p : X × List ℕ) (x : X) → whole_of whole p ≡ Ok x → (p.0 ≡ x) × (p.1 ≡ [])
 whole_ok whole (y, []) x e = (cc, refl)

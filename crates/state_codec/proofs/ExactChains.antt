@@ -14,8 +14,8 @@ use Rattle.state_texts.specs.Texts.{list_text, value_text, row_text, body}
 use Rattle.state_codec.specs.Reading.{Read, kept_at, both_at, items_at, list_at, any_length, rises, is_new, value_at, row_at, entry_at, body_at}
 use Rattle.state_codec.proofs.Exact.{IsExact, exact_as, exact_made, exact_kept, exact_both, exact_items, exact_list, AllAfter}
 use Rattle.state_codec.proofs.Kept.{each_to, each_from, rising_to, rising_from, apart_to, apart_from, lt_is}
-use Rattle.state_codec.proofs.Values.{exact_value, exact_row}
-use Rattle.state_codec.proofs.Leaves.{exact_leaf, exact_rows}
+use Rattle.state_codec.proofs.ExactValues.{exact_value, exact_row}
+use Rattle.state_codec.proofs.ExactLeaves.{exact_leaf, exact_rows}
 
 -- ---- entries whose keys rise
 

@@ -23,7 +23,7 @@ use Rattle.state_texts.specs.Texts.{list_text, flag_text, value_text, row_text, 
 use Rattle.state_codec.specs.Reading.{Read, made, number_at, kept_at, both_at, flag_at, list_at, any_length, up_to, rises, holds_up, value_at, row_at, is_event, an_event, event_at, or_empty, word_at, events_at, one_at, quantile_at, leaf_at}
 use Rattle.state_codec.proofs.Exact.{IsExact, exact_as, exact_text, exact_made, exact_number, exact_kept, exact_both, exact_flag, exact_list, AllAfter}
 use Rattle.state_codec.proofs.Kept.{each_to, each_from, after_weaker, rising_to, rising_from, holding_to, holding_from}
-use Rattle.state_codec.proofs.Values.{exact_value, exact_row, signed_fits, unsigned_fits}
+use Rattle.state_codec.proofs.ExactValues.{exact_value, exact_row, signed_fits, unsigned_fits}
 
 -- ---- a flag and one thing
 
@@ -78,10 +78,10 @@ one_from T t (inl e) = (None, e, tt)
 one_from T t (inr p) = (Some p.0, p.1, p.2)
 
 exact_one : (whole : ℕ) (ts : List Ty) → IsSpelledType (bare (first_type ts))
-    → IsExact (one_at whole ts) (λ t. flag_text (value_text (bare (first_type ts))) (one_of t)) (λ t. (t ≡ Empty) ⊎ ((v : Value) × (t ≡ one_tree (Some v)) × HasValueText (bare (first_type ts)) v))
+    → IsExact (one_at whole (bare (first_type ts))) (λ t. flag_text (value_text (bare (first_type ts))) (one_of t)) (λ t. (t ≡ Empty) ⊎ ((v : Value) × (t ≡ one_tree (Some v)) × HasValueText (bare (first_type ts)) v))
 exact_one whole ts s =
     let T = bare (first_type ts) in
-    exact_as (one_at whole ts) (λ t. flag_text (value_text T) (one_of t)) (λ t. (o : Option Value) × (t ≡ one_tree o) × IfHere (HasValueText T) o) (λ t. (t ≡ Empty) ⊎ ((v : Value) × (t ≡ one_tree (Some v)) × HasValueText T v))
+    exact_as (one_at whole (bare (first_type ts))) (λ t. flag_text (value_text T) (one_of t)) (λ t. (o : Option Value) × (t ≡ one_tree o) × IfHere (HasValueText T) o) (λ t. (t ≡ Empty) ⊎ ((v : Value) × (t ≡ one_tree (Some v)) × HasValueText T v))
     (one_to T) (one_from T)
     (exact_made one_tree one_of (flag_at whole (value_at whole T)) (flag_text (value_text T)) (IfHere (HasValueText T)) (λ o k. one_back o) (exact_flag whole (value_at whole T) (value_text T) (HasValueText T) (exact_value whole T s)))
 
@@ -268,5 +268,5 @@ exact_leaf v whole (SequenceMatch pattern) ts s = exact_events whole (conditions
 exact_leaf v whole Retention ts s = exact_mask whole (length ts) s
 exact_leaf v whole (GroupBit op) ts s =
     let T = bare (first_type ts) in
-    exact_as (one_at whole ts) (λ t. flag_text (value_text T) (one_of t)) (λ t. (t ≡ Empty) ⊎ ((v : Value) × (t ≡ one_tree (Some v)) × HasValueText T v)) (HasLeafText v (GroupBit op) ts)
+    exact_as (one_at whole (bare (first_type ts))) (λ t. flag_text (value_text T) (one_of t)) (λ t. (t ≡ Empty) ⊎ ((v : Value) × (t ≡ one_tree (Some v)) × HasValueText T v)) (HasLeafText v (GroupBit op) ts)
     (bits_to T s.0) (bits_from T) (exact_one whole ts s.1)
