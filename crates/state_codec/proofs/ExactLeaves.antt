@@ -1,24 +1,23 @@
 -- The bodies of the functions are read as they are spelled.
 use Rattle.state_texts.specs.declared.version.Version.{Version}
 use Rattle.state_texts.specs.declared.version.Version.TheVariants.{One}
-use Rattle.std.proofs.Common.{◌≡◌, ◌⊎◌, ℕ, zero, suc, ◌+◌, ◌*◌, ◌/◌, ◌^◌, ◌<◌, ◌≤◌, ℤ, pos, ◌&&◌, pow_mono, ltb, leb, Bool, true, false, List, [], ◌∷◌, ◌++◌, length, Option, Some, None, Result, Ok, Err, refl, sym, ap, ap₂, subst, ◌∙◌, arith, inl, inr}
+use Rattle.std.proofs.Common.{◌≡◌, ◌⊎◌, ℕ, ◌^◌, ◌<◌, ◌≤◌, ℤ, pos, ◌&&◌, pow_mono, ltb, Bool, true, false, List, [], ◌∷◌, ◌++◌, length, Option, Some, None, refl, sym, ap, subst, ◌∙◌, arith, inl, inr}
 use Rattle.std.specs.Prelude.{FitsSigned, unsigned_abs}
 use Rattle.std.specs.Int.{cast_signed, cast_unsigned}
-use Rattle.std.proofs.lemmas.Int.{to_z-of_z, of_z-to_z}
-use Rattle.std.proofs.lemmas.Bool.{and_parts, and_from, cases_lt, ltb-true, lt-ltb, leb-true, le-leb}
+use Rattle.std.proofs.lemmas.Int.{to_z-of_z}
+use Rattle.std.proofs.lemmas.Bool.{and_parts, and_from, ltb-true, lt-ltb, leb-true, le-leb}
 use mir.Syntax.{w64}
 use Rattle.agg_meaning.specs.Feeds.{IfHere}
 use Rattle.agg_meaning.specs.Lawful.{IsNumber}
 use Rattle.agg_terms.proofs.Lists.{values_back, table_back}
 use Rattle.agg_terms.specs.Chains.{Leaf, Count, Sum, Min, Max, ArgMin, ArgMax, GroupArray, UniqExact, QuantileExact, WindowFunnel, SequenceMatch, Retention, GroupBit, Ty, Whole, Signed, Str, Arr, MapTy, Nullable, StateOf}
-use Rattle.agg_terms.specs.Lists.{Each, Rising, NotFalling}
 use Rattle.agg_terms.specs.Order.{compare, compare_rows}
 use Rattle.agg_terms.specs.Trees.{by_time, is_one, one_tree, pair_tree, IsWord, IsUpTo, IsEvent}
 use Rattle.agg_terms.specs.Types.{conditions, bare, first_type, is_signed}
-use Rattle.agg_terms.specs.Values.{Event, Events, Value, Num, Bytes, Nil, Items, Pairs, Cell, Tree, Empty, Word, Tuple, values, tuple_tree, values_tree, rows_tree, values_of, rows_of}
+use Rattle.agg_terms.specs.Values.{Event, Events, Value, Num, Bytes, Nil, Items, Pairs, Cell, Tree, Empty, Word, tuple_tree, values_tree, rows_tree, values_of, rows_of}
 use Rattle.state_texts.specs.Figures.{high, low, number_text}
 use Rattle.state_texts.proofs.Figures.{low_pos, low_signed}
-use Rattle.state_texts.specs.Spelled.{IsCount, HasValueText, HasRowText, HasEvents, HasLeafText, HasQuantileText, IsSpelledType, AreSpelledTypes, IsSpelledLeaf}
+use Rattle.state_texts.specs.Spelled.{HasValueText, HasRowText, HasEvents, HasLeafText, HasQuantileText, IsSpelledType, AreSpelledTypes, IsSpelledLeaf}
 use Rattle.state_texts.specs.Texts.{list_text, flag_text, value_text, row_text, event_text, word_of, one_of, row_of, events_of, quantile_text, leaf_text}
 use Rattle.state_codec.specs.Reading.{Read, made, number_at, kept_at, both_at, flag_at, list_at, any_length, up_to, rises, holds_up, value_at, row_at, is_event, an_event, event_at, or_empty, word_at, events_at, one_at, quantile_at, leaf_at}
 use Rattle.state_codec.proofs.Exact.{IsExact, exact_as, exact_text, exact_made, exact_number, exact_kept, exact_both, exact_flag, exact_list, AllAfter}

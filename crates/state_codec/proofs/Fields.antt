@@ -1,5 +1,5 @@
 -- The states of a type in fields.
-use Rattle.std.proofs.Common.{◌≡◌, ◌^◌, ◌<◌, ◌&&◌, ℕ, true, Bool, List, [], ◌∷◌, map, get_or, Result, Ok, Err, refl, sym, ap, subst, ◌∙◌, arith}
+use Rattle.std.proofs.Common.{◌≡◌, ◌<◌, ℕ, true, List, map, get_or, Result, Ok, Err, sym, ap, subst, ◌∙◌}
 use Rattle.std.specs.Prelude.{IfOk, IsTrue}
 use Rattle.std.proofs.lemmas.Bool.{and_parts}
 use Rattle.agg_terms.specs.Chains as terms
@@ -13,7 +13,6 @@ use Rattle.agg_typing.proofs.Results.{state_type_is_of_legal}
 use Rattle.agg_values.proofs.Images.{tys_back}
 use Rattle.scalar_texts.specs.States.{AllStates, IsStateRead}
 use Rattle.scalar_texts.specs.declared.fault.StateReadFault.{StateReadFault}
-use Rattle.scalar_texts.specs.declared.fault.StateReadFault.TheVariants as fault
 use Rattle.value_types.specs.declared.chain.Chain.{Chain}
 use Rattle.value_types.specs.declared.ty.Ty.{Ty}
 use Rattle.value_types.specs.declared.ty.Ty.TheVariants.{State}
@@ -22,7 +21,6 @@ use Rattle.value_types.specs.Folds.{chain_of, tree_of, ty_of}
 use Rattle.value_types.proofs.FoldLaws.{ty_of-State}
 use Rattle.state_texts.specs.Texts.{text}
 use Rattle.state_texts.specs.Versions.{written}
-use Rattle.state_texts.proofs.Figures.{AreBytes}
 use Rattle.state_texts.proofs.Legal.{legal_spelled}
 use Rattle.state_texts.proofs.Trees.{of_tree}
 use Rattle.state_codec.specs.Codec.{IsLegalState, state_reading, state_text}

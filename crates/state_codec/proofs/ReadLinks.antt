@@ -1,5 +1,5 @@
 -- What is read of a chain, by its kind in the code.
-use Rattle.std.proofs.Common.{◌≡◌, ℕ, ℤ, Bor, List, [], ◌∷◌, map, Result, refl, ap, ap₂, sym, ◌∙◌}
+use Rattle.std.proofs.Common.{◌≡◌, ℕ, ℤ, Bor, List, [], ◌∷◌, map, refl, ap, ap₂, sym, ◌∙◌}
 use Rattle.agg_terms.specs.Chains as terms
 use Rattle.agg_terms.specs.Values as family
 use Rattle.agg_terms.specs.Lists as lists
@@ -16,7 +16,7 @@ use Rattle.agg_values.specs.declared.links.Peels.TheVariants.{Whole, Element, It
 use Rattle.agg_values.specs.Peels.{peeled, peeled_types}
 use Rattle.agg_values.proofs.Inward.{front-map}
 use Rattle.state_texts.specs.declared.version.Version.{Version}
-use Rattle.state_codec.specs.Reading.{Read, any_length, body_at, entry_at, is_new, items_at, kept_at, leaf_at, list_at, made, row_at}
+use Rattle.state_codec.specs.Reading.{any_length, body_at, entry_at, is_new, items_at, kept_at, leaf_at, list_at, made, row_at}
 
 peeled_types-Element : (outer : Bor Peels) (ts : List Ty) → map types.element (peeled_types outer.now ts) ≡ peeled_types (Element outer) ts
 peeled_types-Element outer [] = refl

@@ -1,12 +1,11 @@
 -- A tuple that is read value by value.
-use Rattle.std.proofs.Common.{◌≡◌, ◌<◌, ℕ, List, [], ◌∷◌, ◌++◌, length, Result, Ok, Err, refl, sym, ap, ◌∙◌, append_assoc, append-nil, arith}
+use Rattle.std.proofs.Common.{◌≡◌, ◌<◌, ℕ, List, [], ◌∷◌, ◌++◌, length, Ok, Err, refl, sym, ap, ◌∙◌, append_assoc, append-nil, arith}
 use Rattle.agg_terms.specs.Chains.{Ty}
 use Rattle.agg_terms.specs.Types.{bare}
 use Rattle.agg_terms.specs.Values.{Value}
 use Rattle.agg_values.specs.declared.links.Peels.{Peels}
 use Rattle.agg_values.specs.Peels.{peeled_types}
 use Rattle.value_types.specs.declared.ty.Ty.{Ty as Code}
-use Rattle.scalar_texts.specs.declared.fault.StateFault.{StateFault}
 use Rattle.state_codec.specs.Reading.{Read, ◌>>=◌, both_at, made, row_at, value_at}
 use Rattle.state_codec.specs.proving.Views.{with_front}
 

@@ -1,5 +1,5 @@
 -- A number as std reads it.
-use Rattle.std.proofs.Common.{◌≡◌, ℕ, zero, suc, ◌+◌, ◌*◌, ◌^◌, ◌<◌, ◌≤◌, List, [], ◌∷◌, ◌++◌, length, take, drop, get_or, Result, Ok, Err, refl, sym, ap, ◌∙◌, arith}
+use Rattle.std.proofs.Common.{◌≡◌, ℕ, ◌≤◌, List, [], ◌∷◌, length, take, arith}
 use Rattle.std.specs.Int.{w8, w16, w32, w64, from_be_bytes}
 use Rattle.state_texts.specs.Figures.{worth}
 

@@ -1,4 +1,4 @@
-use Rattle.std.proofs.Common.{◌≡◌, ap, map, rules, sym, ◌∙◌}
+use Rattle.std.proofs.Common.{◌≡◌, ap, rules, sym, ◌∙◌}
 use Rattle.std.specs.Ordering.{is_lt}
 use Rattle.agg_terms.specs.Order.{compare}
 use Rattle.value_types.specs.Folds.{entry_of, value_of}

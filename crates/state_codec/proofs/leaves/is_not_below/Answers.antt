@@ -1,4 +1,4 @@
-use Rattle.std.proofs.Common.{map, rules, sym, ◌∙◌}
+use Rattle.std.proofs.Common.{rules, sym, ◌∙◌}
 use Rattle.agg_terms.specs.Order.{compare}
 use Rattle.value_types.specs.Folds.{value_of}
 use Rattle.state_codec.proofs.Last.{last_holds}

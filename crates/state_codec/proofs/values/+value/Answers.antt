@@ -3,7 +3,7 @@ use Rattle.std.proofs.lemmas.Result.{err_from_is_err_and}
 use Rattle.std.proofs.lemmas.List.{map_push}
 use Rattle.state_codec.specs.Reading.{items_at, value_at, pair_at}
 use Rattle.value_types.specs.Folds.{ty_of, value_of}
-use Rattle.state_codec.specs.proving.Views.{behind, pair_view, with_front}
+use Rattle.state_codec.specs.proving.Views.{pair_view}
 use Rattle.state_codec.proofs.Loop.{goes_on, ends, is_done}
 use Rattle.state_codec.proofs.values.+value.Goals as goal
 
