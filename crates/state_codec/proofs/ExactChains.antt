@@ -1,21 +1,21 @@
 -- The body of every chain is read as it is spelled.
 use Rattle.state_texts.specs.declared.version.Version.{Version}
-use Rattle.std.proofs.Common.{◌≡◌, ℕ, ◌<◌, ◌^◌, Bool, true, false, List, [], ◌∷◌, ◌++◌, map, length, refl, sym, ap, subst, ◌∙◌}
+use Rattle.std.proofs.Common.{◌≡◌, ℕ, ◌<◌, ◌^◌, Bool, true, List, [], ◌∷◌, ◌++◌, map, length, refl}
 use Rattle.std.specs.Prelude.{flat_map}
-use Rattle.agg_terms.proofs.Comparing.{compare_order, rows_order}
+use Rattle.agg_terms.proofs.Comparing.{rows_order}
 use Rattle.agg_terms.proofs.Lists.{trees_back, keyed_back}
 use Rattle.agg_terms.specs.Chains.{Chain, Of, If, Array, MapOf, ForEach, OrNull, OrDefault, Distinct, State, Merge, Resample, Ty}
-use Rattle.agg_terms.specs.Lists.{Each, Apart, Rising, Stepwise}
+use Rattle.agg_terms.specs.Lists.{Each, Rising}
 use Rattle.agg_terms.specs.Order.{compare, compare_rows}
 use Rattle.agg_terms.specs.Types.{intervals, first_type, inward, key_type}
-use Rattle.agg_terms.specs.Values.{Value, Tree, keyed_tree, rows_tree, slots_tree, keyed_of, rows_of, slots_of}
-use Rattle.state_texts.specs.Spelled.{HasValueText, HasRowText, HasText, IsSpelledType, IsSpelledChain}
+use Rattle.agg_terms.specs.Values.{Value, Tree, keyed_tree, rows_tree, slots_tree, keyed_of, slots_of}
+use Rattle.state_texts.specs.Spelled.{HasValueText, HasRowText, HasText, IsSpelledChain}
 use Rattle.state_texts.specs.Texts.{list_text, value_text, row_text, body}
-use Rattle.state_codec.specs.Reading.{Read, kept_at, both_at, items_at, list_at, any_length, rises, is_new, value_at, row_at, entry_at, body_at}
+use Rattle.state_codec.specs.Reading.{kept_at, items_at, list_at, any_length, rises, is_new, value_at, row_at, entry_at, body_at}
 use Rattle.state_codec.proofs.Exact.{IsExact, exact_as, exact_made, exact_kept, exact_both, exact_items, exact_list, AllAfter}
-use Rattle.state_codec.proofs.Kept.{each_to, each_from, rising_to, rising_from, apart_to, apart_from, lt_is}
-use Rattle.state_codec.proofs.Values.{exact_value, exact_row}
-use Rattle.state_codec.proofs.Leaves.{exact_leaf, exact_rows}
+use Rattle.state_codec.proofs.Kept.{each_to, each_from, apart_to, apart_from, lt_is}
+use Rattle.state_codec.proofs.ExactValues.{exact_value, exact_row}
+use Rattle.state_codec.proofs.ExactLeaves.{exact_leaf, exact_rows}
 
 -- ---- entries whose keys rise
 

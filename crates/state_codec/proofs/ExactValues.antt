@@ -1,8 +1,8 @@
 -- Values are read as they are spelled.
-use Rattle.std.proofs.Common.{◌≡◌, ◌⊎◌, ℕ, zero, suc, ◌+◌, ◌*◌, ◌/◌, ◌^◌, ◌<◌, ◌≤◌, ℤ, pos, Bool, true, false, List, [], ◌∷◌, ◌++◌, length, Option, Some, None, Result, Ok, Err, refl, sym, ap, ap₂, subst, ◌∙◌, arith, inl, inr}
-use Rattle.std.specs.Prelude.{FitsSigned, unsigned_abs}
+use Rattle.std.proofs.Common.{◌≡◌, ◌⊎◌, ℕ, zero, suc, ◌+◌, ◌*◌, ◌/◌, ◌^◌, ◌<◌, ℤ, pos, true, List, [], ◌∷◌, ◌++◌, length, Option, Some, None, Ok, refl, sym, ap, subst, ◌∙◌, arith, inl, inr}
+use Rattle.std.specs.Prelude.{FitsSigned}
 use Rattle.std.specs.Int.{byte_len, cast_signed, cast_unsigned}
-use Rattle.std.proofs.lemmas.Int.{ints, to_z-of_z, of_z-to_z}
+use Rattle.std.proofs.lemmas.Int.{to_z-of_z}
 use Rattle.std.proofs.lemmas.Nat.{pow-add}
 use Rattle.std.proofs.Math.Nat.{pow-suc}
 use Rattle.std.proofs.Math.Facts.{sfits_to_z, Fits-of_lt, Fits-of_z}
@@ -17,9 +17,9 @@ use Rattle.agg_terms.specs.Types.{bare}
 use Rattle.agg_terms.specs.Values.{Value, Num, Bytes, Nil, Items, Pairs, Cell, list_value, map_value}
 use Rattle.state_texts.specs.Figures.{high, low}
 use Rattle.state_texts.proofs.Figures.{low_pos, low_signed}
-use Rattle.state_texts.specs.Spelled.{IsCount, HasValueText, HasRowText, IsBase, IsSpelledType, AreSpelledTypes}
+use Rattle.state_texts.specs.Spelled.{HasValueText, HasRowText, IsBase, IsSpelledType, AreSpelledTypes}
 use Rattle.state_texts.specs.Texts.{list_text, bytes_text, flag_text, bytes_of, items_of, pairs_of, not_nil, value_text, row_text}
-use Rattle.state_codec.specs.Reading.{Read, made, number_at, string_at, both_at, flag_at, list_at, any_length, or_nil, value_at, row_at}
+use Rattle.state_codec.specs.Reading.{number_at, string_at, both_at, flag_at, list_at, any_length, or_nil, value_at, row_at}
 use Rattle.state_codec.proofs.Exact.{IsExact, Takes, takes_none, ok_is, exact_as, exact_text, exact_made, exact_number, exact_string, exact_both, exact_flag, exact_list, AllAfter}
 use Rattle.state_codec.proofs.Kept.{each_to, each_from}
 

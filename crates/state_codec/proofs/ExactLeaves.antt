@@ -1,29 +1,28 @@
 -- The bodies of the functions are read as they are spelled.
 use Rattle.state_texts.specs.declared.version.Version.{Version}
 use Rattle.state_texts.specs.declared.version.Version.TheVariants.{One}
-use Rattle.std.proofs.Common.{◌≡◌, ◌⊎◌, ℕ, zero, suc, ◌+◌, ◌*◌, ◌/◌, ◌^◌, ◌<◌, ◌≤◌, ℤ, pos, ◌&&◌, pow_mono, ltb, leb, Bool, true, false, List, [], ◌∷◌, ◌++◌, length, Option, Some, None, Result, Ok, Err, refl, sym, ap, ap₂, subst, ◌∙◌, arith, inl, inr}
+use Rattle.std.proofs.Common.{◌≡◌, ◌⊎◌, ℕ, ◌^◌, ◌<◌, ◌≤◌, ℤ, pos, ◌&&◌, pow_mono, ltb, Bool, true, false, List, [], ◌∷◌, ◌++◌, length, Option, Some, None, refl, sym, ap, subst, ◌∙◌, arith, inl, inr}
 use Rattle.std.specs.Prelude.{FitsSigned, unsigned_abs}
 use Rattle.std.specs.Int.{cast_signed, cast_unsigned}
-use Rattle.std.proofs.lemmas.Int.{to_z-of_z, of_z-to_z}
-use Rattle.std.proofs.lemmas.Bool.{and_parts, and_from, cases_lt, ltb-true, lt-ltb, leb-true, le-leb}
+use Rattle.std.proofs.lemmas.Int.{to_z-of_z}
+use Rattle.std.proofs.lemmas.Bool.{and_parts, and_from, ltb-true, lt-ltb, leb-true, le-leb}
 use mir.Syntax.{w64}
 use Rattle.agg_meaning.specs.Feeds.{IfHere}
 use Rattle.agg_meaning.specs.Lawful.{IsNumber}
 use Rattle.agg_terms.proofs.Lists.{values_back, table_back}
 use Rattle.agg_terms.specs.Chains.{Leaf, Count, Sum, Min, Max, ArgMin, ArgMax, GroupArray, UniqExact, QuantileExact, WindowFunnel, SequenceMatch, Retention, GroupBit, Ty, Whole, Signed, Str, Arr, MapTy, Nullable, StateOf}
-use Rattle.agg_terms.specs.Lists.{Each, Rising, NotFalling}
 use Rattle.agg_terms.specs.Order.{compare, compare_rows}
 use Rattle.agg_terms.specs.Trees.{by_time, is_one, one_tree, pair_tree, IsWord, IsUpTo, IsEvent}
 use Rattle.agg_terms.specs.Types.{conditions, bare, first_type, is_signed}
-use Rattle.agg_terms.specs.Values.{Event, Events, Value, Num, Bytes, Nil, Items, Pairs, Cell, Tree, Empty, Word, Tuple, values, tuple_tree, values_tree, rows_tree, values_of, rows_of}
+use Rattle.agg_terms.specs.Values.{Event, Events, Value, Num, Bytes, Nil, Items, Pairs, Cell, Tree, Empty, Word, tuple_tree, values_tree, rows_tree, values_of, rows_of}
 use Rattle.state_texts.specs.Figures.{high, low, number_text}
 use Rattle.state_texts.proofs.Figures.{low_pos, low_signed}
-use Rattle.state_texts.specs.Spelled.{IsCount, HasValueText, HasRowText, HasEvents, HasLeafText, HasQuantileText, IsSpelledType, AreSpelledTypes, IsSpelledLeaf}
+use Rattle.state_texts.specs.Spelled.{HasValueText, HasRowText, HasEvents, HasLeafText, HasQuantileText, IsSpelledType, AreSpelledTypes, IsSpelledLeaf}
 use Rattle.state_texts.specs.Texts.{list_text, flag_text, value_text, row_text, event_text, word_of, one_of, row_of, events_of, quantile_text, leaf_text}
 use Rattle.state_codec.specs.Reading.{Read, made, number_at, kept_at, both_at, flag_at, list_at, any_length, up_to, rises, holds_up, value_at, row_at, is_event, an_event, event_at, or_empty, word_at, events_at, one_at, quantile_at, leaf_at}
 use Rattle.state_codec.proofs.Exact.{IsExact, exact_as, exact_text, exact_made, exact_number, exact_kept, exact_both, exact_flag, exact_list, AllAfter}
 use Rattle.state_codec.proofs.Kept.{each_to, each_from, after_weaker, rising_to, rising_from, holding_to, holding_from}
-use Rattle.state_codec.proofs.Values.{exact_value, exact_row, signed_fits, unsigned_fits}
+use Rattle.state_codec.proofs.ExactValues.{exact_value, exact_row, signed_fits, unsigned_fits}
 
 -- ---- a flag and one thing
 
@@ -78,10 +77,10 @@ one_from T t (inl e) = (None, e, tt)
 one_from T t (inr p) = (Some p.0, p.1, p.2)
 
 exact_one : (whole : ℕ) (ts : List Ty) → IsSpelledType (bare (first_type ts))
-    → IsExact (one_at whole ts) (λ t. flag_text (value_text (bare (first_type ts))) (one_of t)) (λ t. (t ≡ Empty) ⊎ ((v : Value) × (t ≡ one_tree (Some v)) × HasValueText (bare (first_type ts)) v))
+    → IsExact (one_at whole (bare (first_type ts))) (λ t. flag_text (value_text (bare (first_type ts))) (one_of t)) (λ t. (t ≡ Empty) ⊎ ((v : Value) × (t ≡ one_tree (Some v)) × HasValueText (bare (first_type ts)) v))
 exact_one whole ts s =
     let T = bare (first_type ts) in
-    exact_as (one_at whole ts) (λ t. flag_text (value_text T) (one_of t)) (λ t. (o : Option Value) × (t ≡ one_tree o) × IfHere (HasValueText T) o) (λ t. (t ≡ Empty) ⊎ ((v : Value) × (t ≡ one_tree (Some v)) × HasValueText T v))
+    exact_as (one_at whole (bare (first_type ts))) (λ t. flag_text (value_text T) (one_of t)) (λ t. (o : Option Value) × (t ≡ one_tree o) × IfHere (HasValueText T) o) (λ t. (t ≡ Empty) ⊎ ((v : Value) × (t ≡ one_tree (Some v)) × HasValueText T v))
     (one_to T) (one_from T)
     (exact_made one_tree one_of (flag_at whole (value_at whole T)) (flag_text (value_text T)) (IfHere (HasValueText T)) (λ o k. one_back o) (exact_flag whole (value_at whole T) (value_text T) (HasValueText T) (exact_value whole T s)))
 
@@ -268,5 +267,5 @@ exact_leaf v whole (SequenceMatch pattern) ts s = exact_events whole (conditions
 exact_leaf v whole Retention ts s = exact_mask whole (length ts) s
 exact_leaf v whole (GroupBit op) ts s =
     let T = bare (first_type ts) in
-    exact_as (one_at whole ts) (λ t. flag_text (value_text T) (one_of t)) (λ t. (t ≡ Empty) ⊎ ((v : Value) × (t ≡ one_tree (Some v)) × HasValueText T v)) (HasLeafText v (GroupBit op) ts)
+    exact_as (one_at whole (bare (first_type ts))) (λ t. flag_text (value_text T) (one_of t)) (λ t. (t ≡ Empty) ⊎ ((v : Value) × (t ≡ one_tree (Some v)) × HasValueText T v)) (HasLeafText v (GroupBit op) ts)
     (bits_to T s.0) (bits_from T) (exact_one whole ts s.1)
