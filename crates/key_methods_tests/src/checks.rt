@@ -46,9 +46,14 @@ fn is_value(ty: &Ty, value: &Value) -> bool
 pub fn are_values(types: &[Ty], values: &[Value]) -> bool
     ensures { IsTrue result → AreValues (map ty_of types.now) (map value_of values.now) }
 {
-    match (types, values) {
-        ([], []) => true,
-        ([ty, types @ ..], [value, values @ ..]) => is_value(ty, value) && are_values(types, values),
-        _ => false,
+    match types {
+        [] => match values {
+            [] => true,
+            [_, ..] => false,
+        },
+        [ty, types @ ..] => match values {
+            [] => false,
+            [value, values @ ..] => is_value(ty, value) && are_values(types, values),
+        },
     }
 }

@@ -1,4 +1,4 @@
 mod Images
 mod Rules
-mod Found
+pub mod Found
 mod Numbered

@@ -1,15 +1,14 @@
 -- What every way to put readers together keeps holds of the reader of each chain.
 use Rattle.state_texts.specs.declared.version.Version.{Version}
 use Rattle.state_texts.specs.declared.version.Version.TheVariants.{One}
-use Rattle.std.proofs.Common.{◌≡◌, ℕ, ◌/◌, ◌^◌, ℤ, pos, Bool, true, false, ltb, List, [], ◌∷◌, map, length, Option, Some, Result, Ok, Err}
+use Rattle.std.proofs.Common.{ℕ, ◌/◌, ◌^◌, ℤ, pos, Bool, true, false, ltb, List, [], ◌∷◌, map, length, Option, Ok, Err}
 use Rattle.std.specs.Int.{byte_len, cast_signed}
 use mir.Syntax.{w64}
 use Rattle.agg_terms.specs.Chains.{Leaf, Count, Sum, Min, Max, ArgMin, ArgMax, GroupArray, UniqExact, QuantileExact, WindowFunnel, SequenceMatch, Retention, GroupBit, Chain, Of, If, Array, MapOf, ForEach, OrNull, OrDefault, Distinct, State, Merge, Resample, Ty, Whole, Signed, Str, Arr, MapTy, Nullable, StateOf}
 use Rattle.agg_terms.specs.Order.{compare, compare_rows}
 use Rattle.agg_terms.specs.Trees.{one_tree}
 use Rattle.agg_terms.specs.Types.{intervals, conditions, bare, first_type, is_signed, inward, key_type}
-use Rattle.agg_terms.specs.Values.{Event, Events, Value, Num, Bytes, Tree, Word, tuple_tree, list_value, map_value, values_tree, rows_tree, slots_tree, keyed_tree}
-use Rattle.scalar_texts.specs.declared.fault.StateFault.{StateFault}
+use Rattle.agg_terms.specs.Values.{Events, Value, Num, Bytes, Tree, Word, tuple_tree, list_value, map_value, values_tree, rows_tree, slots_tree, keyed_tree}
 use Rattle.scalar_texts.specs.declared.fault.StateFault.TheVariants.{Short}
 use Rattle.state_texts.specs.Figures.{worth}
 use Rattle.state_codec.specs.Reading.{Read, made, bytes_at, number_at, string_at, kept_at, both_at, flag_at, items_at, list_at, any_length, up_to, rises, holds_up, is_new, or_nil, value_at, row_at, is_event, an_event, event_at, or_empty, word_at, events_at, one_at, quantile_at, leaf_at, entry_at, body_at}
@@ -69,7 +68,7 @@ module _ (Q : (X : Type 0) → Reader X → Type 0) (laws : IsClosed Q) where
       (laws.of_list any_length (λ whole e. kept_at whole (is_event n e) event_at)
       (λ e. laws.of_kept (is_event n e) (λ whole. event_at) (laws.of_made an_event (λ whole. both_at (number_at 8) (number_at 4)) (laws.of_both (λ whole. number_at 8) (λ whole. number_at 4) (of_number 8) (of_number 4))))))
 
-  closed_one : (ts : List Ty) → Q Tree (λ whole. one_at whole ts)
+  closed_one : (ts : List Ty) → Q Tree (λ whole. one_at whole (bare (first_type ts)))
   closed_one ts = laws.of_made one_tree (λ whole. flag_at whole (value_at whole (bare (first_type ts)))) (laws.of_flag (λ whole. value_at whole (bare (first_type ts))) (closed_value (bare (first_type ts))))
 
   closed_pair : (ts : List Ty) → Q Tree (λ whole bytes. made (or_empty tuple_tree) (flag_at whole (row_at whole ts) bytes))

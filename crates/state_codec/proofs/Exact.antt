@@ -1,12 +1,12 @@
 -- What is read is spelled so, and what is spelled so is read: for each way to put readers together.
-use Rattle.std.proofs.Common.{◌≡◌, ◌⊎◌, ℕ, zero, suc, ◌+◌, ◌-◌, ◌^◌, ◌<◌, ◌≤◌, Bool, true, false, cond, ltb, List, [], ◌∷◌, ◌++◌, length, take, drop, Option, Some, None, Result, Ok, Err, refl, sym, ap, ap₂, subst, ◌∙◌, append_assoc, append-nil, arith, inl, inr}
+use Rattle.std.proofs.Common.{◌≡◌, ℕ, zero, suc, ◌^◌, ◌<◌, ◌≤◌, Bool, true, false, cond, ltb, List, [], ◌∷◌, ◌++◌, length, take, drop, Option, Some, None, Result, Ok, Err, refl, sym, ap, ap₂, subst, ◌∙◌, append_assoc, arith}
 use Rattle.std.specs.Prelude.{flat_map}
 use Rattle.std.proofs.lemmas.Bool.{ltb-false, le-ltb}
 use Rattle.std.proofs.lemmas.List.{take_at, drop_at, take-append-drop, length-append, length-take-le}
 use Rattle.agg_meaning.specs.Feeds.{IfHere}
 use Rattle.agg_terms.specs.Lists.{Each}
 use Rattle.scalar_texts.specs.declared.fault.StateFault.{StateFault}
-use Rattle.scalar_texts.specs.declared.fault.StateFault.TheVariants.{Short, Version as OtherVersion, BadTag, NotCanonical, Long}
+use Rattle.scalar_texts.specs.declared.fault.StateFault.TheVariants.{Short, NotCanonical}
 use Rattle.state_texts.proofs.Figures.{AreBytes, length_high, high_bytes, high_worth, worth_below, worth_high}
 use Rattle.state_texts.specs.Figures.{high, worth}
 use Rattle.state_texts.specs.Texts.{list_text, bytes_text, flag_text}

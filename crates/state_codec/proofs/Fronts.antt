@@ -1,6 +1,5 @@
 -- Fronts of texts, bytes behind them, and faults.
-use Rattle.std.proofs.Common.{◌≡◌, ◌⊎◌, ℕ, zero, suc, ◌+◌, ◌-◌, ◌<◌, ◌≤◌, max, Bool, true, false, cond, eqb, List, [], ◌∷◌, ◌++◌, length, take, drop, append_assoc, Option, Some, None, Result, Ok, Err, refl, sym, ap, ap₂, subst, ◌∙◌, append-nil, arith, inl, inr}
-use Rattle.std.proofs.lemmas.Bool.{eqb-true}
+use Rattle.std.proofs.Common.{◌≡◌, ℕ, zero, suc, ◌+◌, ◌<◌, ◌≤◌, max, List, [], ◌∷◌, ◌++◌, length, take, drop, append_assoc, Option, Some, None, Result, Ok, Err, refl, sym, ap, ap₂, subst, ◌∙◌, append-nil, arith}
 use Rattle.std.proofs.lemmas.List.{length-append, length-drop, length-take-le, take-append-drop}
 use Rattle.agg_terms.specs.Chains.{Chain, Ty}
 use Rattle.agg_terms.specs.Values.{Tree}
@@ -14,10 +13,9 @@ use Rattle.state_texts.specs.Versions.{version_byte, version_of}
 use Rattle.state_texts.proofs.Versions.{byte_is, version_back}
 use Rattle.state_codec.specs.Reading.{Read, ◌>>=◌, place, body_at, whole_of, read_in, reading}
 use Rattle.state_codec.specs.Laws.{IsFinal, Points}
-use Rattle.state_codec.proofs.Exact.{IsExact, Takes}
-use Rattle.state_codec.proofs.Chains.{exact_body}
+use Rattle.state_codec.proofs.ExactChains.{exact_body}
 use Rattle.state_codec.proofs.Whole.{whole_long, whole_takes}
-use Rattle.state_codec.proofs.Steady.{Steady, Stays, IsSteady, steady_body}
+use Rattle.state_codec.proofs.Steady.{Steady, IsSteady, steady_body}
 use Rattle.state_codec.proofs.Inside.{IsInside, Inside, StaysInside, inside_body}
 
 no_cell : (b : ℕ) (x more : List ℕ) → [] ≡ x ++ b ∷ more → ⊥

@@ -1,10 +1,8 @@
 -- The laws of whole state texts.
-use Rattle.std.proofs.Common.{◌≡◌, ◌⊎◌, ℕ, zero, suc, ◌+◌, ◌-◌, ◌^◌, ◌<◌, ◌≤◌, Bool, true, false, cond, eqb, List, [], ◌∷◌, ◌++◌, length, take, Option, Some, None, Result, Ok, Err, refl, sym, ap, ap₂, subst, ◌∙◌, append-nil, append_assoc, arith, inl, inr}
-use Rattle.std.proofs.lemmas.Bool.{eqb-true}
+use Rattle.std.proofs.Common.{◌≡◌, ℕ, List, [], ◌∷◌, ◌++◌, length, Option, Some, None, Ok, Err, refl, sym, ap, ap₂, subst, ◌∙◌, append-nil, arith}
 use Rattle.agg_terms.specs.Chains.{Chain, Ty}
 use Rattle.agg_terms.specs.Values.{Tree}
-use Rattle.scalar_texts.specs.declared.fault.StateFault.{StateFault}
-use Rattle.scalar_texts.specs.declared.fault.StateFault.TheVariants.{Short, Version as OtherVersion, BadTag, NotCanonical, Long}
+use Rattle.scalar_texts.specs.declared.fault.StateFault.TheVariants.{Long}
 use Rattle.state_texts.proofs.Figures.{AreBytes}
 use Rattle.state_texts.specs.Spelled.{HasText, IsSpelledChain}
 use Rattle.state_texts.specs.Texts.{body, text}
@@ -12,8 +10,8 @@ use Rattle.state_texts.specs.declared.version.Version.{Version}
 use Rattle.state_texts.specs.Versions.{version_byte, version_of, written}
 use Rattle.state_texts.proofs.Versions.{byte_is, same_version, version_back}
 use Rattle.state_codec.specs.Reading.{Read, ◌>>=◌, place, body_at, whole_of, read_in, reading}
-use Rattle.state_codec.proofs.Exact.{IsExact, Takes, bind_ok, ok_is, done}
-use Rattle.state_codec.proofs.Chains.{exact_body}
+use Rattle.state_codec.proofs.Exact.{bind_ok, ok_is, done}
+use Rattle.state_codec.proofs.ExactChains.{exact_body}
 
 whole_ok : {X : Type 0} (whole : ℕ) (p : X × List ℕ) (x : X) → whole_of whole p ≡ Ok x → (p.0 ≡ x) × (p.1 ≡ [])
 whole_ok whole (y, []) x e = (cc, refl)

@@ -1,5 +1,5 @@
 -- The laws of state texts and of their reading.
-use Rattle.std.specs.Prelude.{◌≡◌, ℕ, ◌<◌, ◌≤◌, List, [], ◌∷◌, ◌++◌, length, take, Ok, Err}
+use Rattle.std.specs.Prelude.{◌≡◌, ℕ, ◌<◌, ◌≤◌, List, ◌∷◌, ◌++◌, length, take, Ok, Err}
 use Rattle.scalar_texts.specs.declared.fault.StateFault.{StateFault}
 use Rattle.scalar_texts.specs.declared.fault.StateFault.TheVariants.{Short, BadTag, NotCanonical, Long}
 use Rattle.agg_terms.specs.Chains.{Chain, Ty}

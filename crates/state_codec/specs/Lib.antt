@@ -1,3 +1,5 @@
 pub mod Reading
 pub mod Laws
+pub mod Gives
+pub mod Codec
 pub mod proving

@@ -2,7 +2,7 @@
 use Rattle.state_texts.specs.declared.version.Version.{Version}
 use Rattle.state_texts.specs.declared.version.Version.TheVariants.{One}
 use Rattle.state_texts.specs.Versions.{version_of}
-use Rattle.std.specs.Prelude.{◌≡◌, ℕ, zero, suc, ◌-◌, ◌/◌, ◌^◌, ℤ, pos, Bool, true, false, not, ◌&&◌, List, [], ◌∷◌, map, length, take, drop, Option, Some, None, Result, Ok, Err, nat_lt, nat_le, if◌then◌else◌}
+use Rattle.std.specs.Prelude.{ℕ, zero, suc, ◌-◌, ◌/◌, ◌^◌, ℤ, pos, Bool, true, false, not, ◌&&◌, List, [], ◌∷◌, map, length, take, drop, Option, Some, None, Result, Ok, Err, nat_lt, nat_le, if◌then◌else◌}
 use Rattle.std.specs.Int.{byte_len, cast_signed}
 use Rattle.std.specs.declared.cmp.Ordering.{Ordering}
 use Rattle.std.specs.Ordering.{is_lt, is_le, is_eq}
@@ -142,8 +142,8 @@ abbrev pub events_at : ℕ → ℕ → List ℕ → Read Tree
 events_at whole n bytes =
     made (or_empty Events) (flag_at whole (list_at whole any_length (λ earlier. kept_at whole (is_event n earlier) event_at)) bytes)
 
-abbrev pub one_at : ℕ → List Ty → List ℕ → Read Tree
-one_at whole ts bytes = made one_tree (flag_at whole (value_at whole (bare (first_type ts))) bytes)
+abbrev pub one_at : ℕ → Ty → List ℕ → Read Tree
+one_at whole ty bytes = made one_tree (flag_at whole (value_at whole ty) bytes)
 
 -- the state of quantileExact: in version 1 the values, none below the one before it
 abbrev pub quantile_at : Version → ℕ → Ty → List ℕ → Read Tree
@@ -153,8 +153,8 @@ quantile_at One whole ty bytes =
 abbrev pub leaf_at : Version → ℕ → Leaf → List Ty → List ℕ → Read Tree
 leaf_at v whole Count ts bytes = made (or_empty Word) (flag_at whole (word_at false) bytes)
 leaf_at v whole Sum ts bytes = made (or_empty Word) (flag_at whole (word_at (is_signed (first_type ts))) bytes)
-leaf_at v whole Min ts bytes = one_at whole ts bytes
-leaf_at v whole Max ts bytes = one_at whole ts bytes
+leaf_at v whole Min ts bytes = one_at whole (bare (first_type ts)) bytes
+leaf_at v whole Max ts bytes = one_at whole (bare (first_type ts)) bytes
 leaf_at v whole ArgMin ts bytes = made (or_empty tuple_tree) (flag_at whole (row_at whole ts) bytes)
 leaf_at v whole ArgMax ts bytes = made (or_empty tuple_tree) (flag_at whole (row_at whole ts) bytes)
 leaf_at v whole (GroupArray most) ts bytes =
@@ -166,7 +166,7 @@ leaf_at v whole (WindowFunnel window strict) ts bytes = events_at whole (conditi
 leaf_at v whole (SequenceMatch pattern) ts bytes = events_at whole (conditions ts) bytes
 leaf_at v whole Retention ts bytes =
     made (or_empty (λ m. Word (pos m))) (flag_at whole (kept_at whole (λ m. nat_lt m (2 ^ length ts)) (number_at 4)) bytes)
-leaf_at v whole (GroupBit op) ts bytes = one_at whole ts bytes
+leaf_at v whole (GroupBit op) ts bytes = one_at whole (bare (first_type ts)) bytes
 
 -- a key that stands above those before it, and what is read behind it
 abbrev pub entry_at : ℕ → Ty → (List ℕ → Read Tree) → List (Value × Tree) → List ℕ → Read (Value × Tree)

@@ -1,2 +1,2 @@
 -- What only serves proofs: no public contract stands on it.
-pub mod Gives
+pub mod Views

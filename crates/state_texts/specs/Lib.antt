@@ -3,3 +3,4 @@ pub mod Versions
 pub mod Texts
 pub mod Spelled
 pub mod Laws
+pub mod proving

@@ -7,5 +7,12 @@
 mod laws;
 mod version;
 
-pub use laws::law_trees_have_texts;
+// writing
+mod bodies;
+mod leaves;
+mod numbers;
+mod values;
+
+pub use bodies::write_text;
+pub use laws::{law_legal_is_spelled, law_trees_have_texts};
 pub use version::Version;

@@ -1,4 +1,4 @@
-use Rattle.request_text_tests.proofs.Uses.{rows_feed, view_legal}
+use Rattle.request_text_tests.proofs.FeedsOfQueries.{rows_feed, view_legal}
 use Rattle.request_text_tests.proofs.uses.query_of_feeds.Goals as goal
 
 pub returns-clause-legal : goal.returns-clause-legal

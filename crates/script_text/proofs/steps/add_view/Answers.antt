@@ -9,4 +9,4 @@ returns-clause-sessions c = λ text h. view_kept text c.args.script c.in_ok-view
 pub returns-clause-views : goal.returns-clause-views
 returns-clause-views c =
     views_more c.args.script.views c.in_ok-view.view c.push.new.self c.in_ok-push.ensures.ok
-    (subst (λ (views : List View). length views < 16) c.as_slice.ensures c.in_ok-view.ensures.few) c.requires.views c.in_ok-view.ensures.fits
+    (subst (λ (views : List View). length views < 16) c.as_slice-views.ensures c.in_ok-view.ensures.few) c.requires.views c.in_ok-view.ensures.fits
