@@ -13,6 +13,7 @@ use Rattle.row_texts.specs.declared.refusal.LineRefusal.{LineRefusal}
 use Rattle.row_texts.specs.declared.refusal.LineRefusal.TheVariants as line
 use Rattle.line_reader.specs.Ahead.{Ahead, IsInput}
 use Rattle.line_reader.specs.Answers.{IsWhole, ReadsBlock, StopsAt}
+use Rattle.line_reader.specs.Filling.{FillCause}
 use Rattle.line_reader.specs.declared.stop.Stop.{Stop}
 use Rattle.line_reader.specs.declared.stop.Stop.TheVariants as stop
 use Rattle.line_reader.specs.Limits.{ends_line, AreShort, IsBegun, IsTooLong, IsTooLarge}
@@ -21,7 +22,7 @@ use Rattle.line_reader.proofs.Handed.{input-before, told_of, told-is}
 use Rattle.line_reader.proofs.Lines.{lines_of-append, lines_of-nil, ends_line-append, short-append}
 use Rattle.batch_reader.specs.proving.Faults.{fault_of}
 use Rattle.batch_reader.specs.proving.Pushing.{PushesBlock, PushesLines, PushesText, RefusesBehind, StopsBefore}
-use Rattle.batch_reader.specs.Reading.{AreRowsUpTo, IsFront, IsBatchAnswer, IsTakenOpen, ReadsRows, RefusesAt, RowCause}
+use Rattle.batch_reader.specs.Reading.{AreRowsUpTo, IsFront, IsBatchAnswer, IsTakenOpen, ReadsRows, RefusesAt, RowCause, ends_as}
 use Rattle.batch_reader.specs.declared.fault.RowFault.{RowFault}
 use Rattle.batch_reader.specs.declared.fault.RowFault.TheVariants as fault
 use Rattle.batch_reader.proofs.Pushed.{rows-append}
@@ -291,3 +292,19 @@ stop-answer reads types left mid now first ahead after batch next block text n s
     let rows = subst (λ (t : List ℕ). AreRows reads batch.types (lines_of t) pushed.0) text_is pushed.1 in
     let read = read-more reads types left mid now first ahead after batch next block stops so_far one pushed.0 rows pushed.2 in
     subst (Exit reads types left now first after next n) told_is (exit-of reads types left mid now first ahead after next block n stops read one pushed.3)
+
+-- what the last block leads to is what its end is answered with
+pub ended : (reads : ReadsStates) (types : List Ty) (left now : Option (List ℕ)) (first after : Ahead) (batch : Rows) (n : ℕ) (stops : Stop)
+    → Exit reads types left now first after batch n stops → ReadsRows reads types left now first (ends_as stops batch n)
+ended reads types left now first after batch n stop.More exit = no-memory reads types left now first
+ended reads types left now first after batch n stop.End exit = exit
+ended reads types left now first after batch n stop.Read exit = exit
+ended reads types left now first after batch n stop.TooLong exit = exit
+ended reads types left now first after batch n stop.TooLarge exit = exit
+
+pub ended-cause : (before faults count n : ℕ) (batch : Rows) (stops : Stop) → faults ≡ before → FillCause faults count stops → RowCause before count (ends_as stops batch n)
+ended-cause before faults count n batch stop.More quiet cause = tt
+ended-cause before faults count n batch stop.End quiet cause = cause ∙ quiet
+ended-cause before faults count n batch stop.Read quiet cause = subst (λ (k : ℕ). FillCause k count stop.Read) quiet cause
+ended-cause before faults count n batch stop.TooLong quiet cause = tt
+ended-cause before faults count n batch stop.TooLarge quiet cause = tt

@@ -11,6 +11,8 @@ use Rattle.scalar_texts.specs.States.{ReadsStates}
 use Rattle.columns.specs.Rows.{Rows}
 use Rattle.line_reader.specs.Ahead.{Ahead, IsInput}
 use Rattle.line_reader.specs.Limits.{ends_line, AreShort, IsBegun, IsTooLong, IsTooLarge}
+use Rattle.line_reader.specs.declared.stop.Stop.{Stop}
+use Rattle.line_reader.specs.declared.stop.Stop.TheVariants as stop
 use Rattle.row_texts.specs.Rows.{AreRows, IsFirstRefused}
 use Rattle.row_texts.specs.declared.refusal.LineRefusal.{LineRefusal}
 use Rattle.row_texts.specs.declared.refusal.LineRefusal.TheVariants as line
@@ -67,6 +69,14 @@ IsBatchAnswer reads types now ahead input (Err (TooLong row)) =
 IsBatchAnswer reads types now ahead input (Err TooLarge) = AreRowsUpTo reads types ahead input (λ room rows rest. IsTooLarge ahead.most_line room rest)
 IsBatchAnswer reads types now ahead input (Err Read) = AreRowsUpTo reads types ahead input (λ room rows rest. IsTakenOpen now ahead.most_line room rest)
 IsBatchAnswer reads types now ahead input (Err OutOfMemory) = Unit {0}
+
+-- What reading comes to behind the last block of lines, by why that one ends.
+abbrev pub ends_as : Stop → Rows → ℕ → Result Rows RowFault
+ends_as stop.End batch next = Ok batch
+ends_as stop.Read batch next = Err Read
+ends_as stop.TooLong batch next = Err (TooLong next)
+ends_as stop.TooLarge batch next = Err TooLarge
+ends_as stop.More batch next = Err OutOfMemory
 
 -- The answer to what a reader of lines and its source have left.
 pub record ReadsRows (reads : ReadsStates) (types : List Ty) (left now : Option (List ℕ)) (ahead : Ahead) (answer : Result Rows RowFault) : Type 0 where

@@ -8,7 +8,7 @@ ghost use Rattle.scalar_texts.specs.States.{ReadsStates};
 ghost use Rattle.row_texts.specs.Rows.{AreReadable};
 ghost use Rattle.batch_reader.specs.proving.Pieces.{AreOf};
 ghost use Rattle.batch_reader.specs.proving.Pushing.{PushesBlock, PushesText};
-ghost use Rattle.batch_reader.specs.Reading.{ReadsRows, RowCause, schema_types};
+ghost use Rattle.batch_reader.specs.Reading.{ReadsRows, RowCause, ends_as, schema_types};
 
 use crate::RowFault;
 use crate::fault::fault_of;
@@ -32,7 +32,7 @@ use value_types::{OutOfMemory, Ty};
 const LEAST_PIECE: usize = 65_536;
 
 /// How a block is cut: into at most so many pieces of about one length, each of at least so many bytes.
-#[derive(Clone, Copy, Debug)]
+#[derive(Clone, Copy)]
 struct Cutting {
     most_pieces: usize,
     least_piece: usize,
@@ -159,6 +159,20 @@ fn push_and_read<H: Threads + Sync, S: Source, R: StateReader + Sync>(
     Ok(join_block(rt, alloc, lanes, batch, &mut read)??)
 }
 
+// What reading comes to behind the last block, by why that one ends. Its rows are in the batch, and `next` is the number of the row behind them.
+fn ending(stop: Stop, batch: Batch, next: u64) -> Result<Batch, RowFault>
+    ensures { result ≡ ends_as stop batch next }
+{
+    match stop {
+        Stop::End => Ok(batch),
+        Stop::Read => Err(RowFault::Read),
+        Stop::TooLong => Err(RowFault::TooLong { row: next }),
+        Stop::TooLarge => Err(RowFault::TooLarge),
+        // Each block has a byte at least: memory ends before the blocks do.
+        Stop::More => Err(RowFault::OutOfMemory),
+    }
+}
+
 // The rows of all that a source has left behind what is held.
 #[tactic(auto, using(crate::proofs::Blocks::read_laws))]
 fn read_all<H: Threads + Sync, S: Source, R: StateReader + Sync>(
@@ -191,19 +205,11 @@ fn read_all<H: Threads + Sync, S: Source, R: StateReader + Sync>(
         }
     }
     let text = block.as_slice();
-    let next = match push_last(
+    match push_last(
         rt, alloc, reader, types, cutting, text, &mut lanes, &mut batch,
     ) {
-        Ok(next) => next,
-        Err(fault) => return Err(fault),
-    };
-    match stop {
-        Stop::End => Ok(batch),
-        Stop::Read => Err(RowFault::Read),
-        Stop::TooLong => Err(RowFault::TooLong { row: next }),
-        Stop::TooLarge => Err(RowFault::TooLarge),
-        // Each block has a byte at least: memory ends before the blocks do.
-        Stop::More => Err(RowFault::OutOfMemory),
+        Ok(next) => ending(stop, batch, next),
+        Err(fault) => Err(fault),
     }
 }
 

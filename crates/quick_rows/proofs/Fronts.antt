@@ -1,26 +1,21 @@
 -- The front of a text up to a byte that ends it.
-use Rattle.std.proofs.Common.{◌≡◌, add-one, ℕ, zero, suc, ◌+◌, ◌-◌, ◌<◌, ◌≤◌, ◌≢◌, Bool, true, false, not, ◌||◌, ◌&&◌, List, [], ◌∷◌, ◌++◌, length, take, drop, get_or, cond, eqb, Option, None, Some, Bor, nat_lt, ◌^◌, refl, sym, ap, subst, ◌∙◌, arith, append_assoc, length-append}
+use Rattle.std.proofs.Common.{◌≡◌, add-one, ℕ, zero, suc, ◌+◌, ◌-◌, ◌<◌, ◌≤◌, ◌≢◌, Bool, true, false, not, ◌||◌, ◌&&◌, List, [], ◌∷◌, ◌++◌, length, take, drop, get_or, cond, eqb, None, Some, nat_lt, ◌^◌, refl, sym, ap, subst, ◌∙◌, arith, append_assoc}
 use Rattle.std.specs.List.{list_all, slice_split, onto_first, position, position_or_len}
 use Rattle.std.specs.Cmp.Derive.{both_true}
 use Rattle.std.proofs.lemmas.Bool.{and_parts, ltb-false}
 use Rattle.std.proofs.lemmas.Bool.Decides.{nat_tests}
 use Rattle.std.proofs.lemmas.Grind.{common_steps}
 use Rattle.std.proofs.lemmas.List.Folds.{list_all-append}
-use Rattle.std.proofs.lemmas.List.{append-nil}
+use Rattle.std.proofs.Math.Seq.{take-length}
+use Rattle.std.proofs.lemmas.List.{append-nil, take-append-drop}
 use Rattle.std.proofs.lemmas.List.Quantifiers.{position-Some}
 use Rattle.std.proofs.lemmas.List.Splits.{slice_split-cons_no, slice_split-cons_yes}
 use Rattle.tsv_text.specs.Lines.{fields_of, is_tab}
 use Rattle.scalar_texts.specs.Answer.{is_null_text}
-use Rattle.quick_rows.specs.declared.field.Front.TheVariants as front
-use Rattle.quick_rows.specs.Taking.{AreBytes, EndsField, IsFirstField, is_bare, is_plain, is_quotable}
+use Rattle.quick_rows.specs.Taking.{AreBytes, Fails, IsFront, is_bare, is_plain, is_quotable}
 
 abbrev pub is_comma : ℕ → Bool
 is_comma b = eqb b 44
-
--- no byte passes
-abbrev pub Fails : (ℕ → Bool) → List ℕ → Type 0
-Fails p [] = Unit {0}
-Fails p (x ∷ xs) = (p x ≡ false) × Fails p xs
 
 pub split-front : (p : ℕ → Bool) (front : List ℕ) (y : ℕ) (rest : List ℕ) → Fails p front → p y ≡ true → slice_split p (front ++ y ∷ rest) ≡ front ∷ slice_split p rest
 split-front p [] y rest h passes = slice_split-cons_yes p y rest passes
@@ -30,25 +25,14 @@ pub split-whole : (p : ℕ → Bool) (xs : List ℕ) → Fails p xs → slice_sp
 split-whole p [] h = refl
 split-whole p (x ∷ xs) h = slice_split-cons_no p x xs h.0 ∙ ap (onto_first x) (split-whole p xs h.1)
 
--- a front without a tab is the first field
-abbrev pub IsFieldThen : List ℕ → List ℕ → List ℕ → Type 0
-IsFieldThen text field after = (fields_of text ≡ field ∷ fields_of after) × (length after < length text)
-
-pub field_then_tab : (text field after : List ℕ) → Fails is_tab field → text ≡ field ++ 9 ∷ after → IsFieldThen text field after
+-- a front without a tab is the first field, where a tab or nothing stands behind it
+pub field_then_tab : (text field left after : List ℕ) → IsFront text field left → left ≡ 9 ∷ after → fields_of text ≡ field ∷ fields_of after
 unfolding fields_of
-field_then_tab text field after plain is = (
-  ap fields_of is ∙ split-front is_tab field 9 after plain refl,
-  omega (arith, ap length is, length-append field (9 ∷ after)),
-)
+field_then_tab text field left after h tab = ap fields_of (h.0 ∙ ap (λ t. field ++ t) tab) ∙ split-front is_tab field 9 after h.1 refl
 
-pub field_alone : (text field : List ℕ) → Fails is_tab field → text ≡ field → IsFirstField text field None
+pub field_alone : (text field left : List ℕ) → IsFront text field left → left ≡ [] → fields_of text ≡ field ∷ []
 unfolding fields_of
-field_alone text field plain is = ap fields_of is ∙ split-whole is_tab field plain
-
--- a front without a tab that a tab or the text ends
-pub first_by_end : (text field left : List ℕ) (behind : Option (Bor (List ℕ))) → Fails is_tab field → text ≡ field ++ left → EndsField left (front.Taken behind) → IsFirstField text field behind
-first_by_end text field left None plain split ends = field_alone text field plain (split ∙ ap (λ t. field ++ t) ends ∙ append-nil field)
-first_by_end text field left (Some behind) plain split ends = field_then_tab text field behind.now plain (split ∙ ap (λ t. field ++ t) ends)
+field_alone text field left h none = ap fields_of (h.0 ∙ ap (λ t. field ++ t) none ∙ append-nil field) ∙ split-whole is_tab field h.1
 
 -- neither a comma nor a tab
 abbrev pub keeps_on : ℕ → Bool
@@ -70,8 +54,8 @@ kept_fails (x ∷ xs) h =
     let more = kept_fails xs all.1 in
     ((not_so (eqb x 44) here.0, more.0), (not_so (eqb x 9) here.1, more.1))
 
-pub part_field : (text part left : List ℕ) (behind : Option (Bor (List ℕ))) → IsPart text part left → EndsField left (front.Taken behind) → IsFirstField text part behind
-part_field text part left behind h ends = first_by_end text part left behind (kept_fails part h.2).1 h.0 ends
+pub part_front : (text part left : List ℕ) → IsPart text part left → IsFront text part left
+part_front text part left h = (h.0, (kept_fails part h.2).1)
 
 pub Fails-append : (p : ℕ → Bool) (xs ys : List ℕ) → Fails p xs → Fails p ys → Fails p (xs ++ ys)
 Fails-append p [] ys f g = g
@@ -121,18 +105,18 @@ plain_fails (x ∷ xs) h =
     let more = plain_fails xs h.1 in
     ((no.0, more.0), both_true (ap not no.1) more.1)
 
--- a field up to its tab
-pub plain_then_tab : (text after : List ℕ) (at : ℕ) → position ends_plain text ≡ Some at → get_or text at 0 ≡ 9 → after ≡ drop (at + 1) text →
-    IsFieldThen text (take at text) after × (is_plain (take at text) ≡ true)
-plain_then_tab text after at found tab rest =
+-- what stands before the first tab or backslash, or before the end
+pub plain_front : (text front left : List ℕ) (at : ℕ) → position ends_plain text ≡ Some at → front ≡ take at text → left ≡ drop at text → IsFront text front left × (is_plain front ≡ true)
+plain_front text front left at found front_is left_is =
     let first = position-Some ends_plain text at 0 found in
-    let plain = plain_fails (take at text) (fails_by ends_plain text at (omega (arith, first.0)) first.2) in (
-      field_then_tab text (take at text) after plain.0 (split_here text at first.0 ∙ (λ i. take at text ++ (tab i ∷ sym rest i))),
-      plain.1,
-    )
+    let plain = plain_fails (take at text) (fails_by ends_plain text at (omega (arith, first.0)) first.2) in
+    ((sym (take-append-drop at text) ∙ (λ i. sym front_is i ++ sym left_is i), subst (Fails is_tab) (sym front_is) plain.0), ap is_plain front_is ∙ plain.1)
 
-pub plain_alone : (text : List ℕ) → position ends_plain text ≡ None → IsFirstField text text None × (is_plain text ≡ true)
-plain_alone text found = let plain = plain_fails text (fails_everywhere ends_plain text found) in (field_alone text text plain.0 refl, plain.1)
+pub plain_whole : (text front left : List ℕ) → position ends_plain text ≡ None → front ≡ take (length text) text → left ≡ drop (length text) text → IsFront text front left × (is_plain front ≡ true)
+plain_whole text front left found front_is left_is =
+    let plain = plain_fails text (fails_everywhere ends_plain text found) in
+    let whole = front_is ∙ take-length text in
+    ((sym (take-append-drop (length text) text) ∙ (λ i. sym front_is i ++ sym left_is i), subst (Fails is_tab) (sym whole) plain.0), ap is_plain whole ∙ plain.1)
 
 pub bytes-take : (text : List ℕ) (n : ℕ) → AreBytes text → AreBytes (take n text)
 bytes-take text zero h = refl
@@ -200,26 +184,19 @@ front_two (x ∷ y ∷ text) b c some here next =
     let whole : take (length (x ∷ y ∷ text) - 2) text ≡ text = grind (arith, common_steps) in
     rw whole (λ i. here i ∷ next i ∷ text)
 
--- where the first byte is no backslash, the first field isn't `\N`
-head_is : (x : ℕ) (tab : Bool) (parts : List (List ℕ)) (b c : ℕ) (rest : List (List ℕ)) → cond tab ([] ∷ parts) (onto_first x parts) ≡ (b ∷ c ∷ []) ∷ rest → b ≡ x
-head_is x true parts b c rest e = cc
-head_is x false [] b c rest e = cc
-head_is x false (part ∷ parts) b c rest e = cc
+-- where the first byte is no backslash, no front is `\N`
+no_slash : (b c : ℕ) → b ≢ 92 → is_null_text (b ∷ c ∷ []) ≡ false
+no_slash b c other = let no : eqb b 92 ≡ false = grind (arith, nat_tests) in rw no refl
 
-null_field : (text field : List ℕ) (rest : List (List ℕ)) → get_or text 0 0 ≢ 92 → slice_split is_tab text ≡ field ∷ rest → is_null_text field ≡ false
-null_field text [] rest other is = refl
-null_field text (b ∷ []) rest other is = refl
-null_field text (b ∷ c ∷ d ∷ field) rest other is = refl
-null_field [] (b ∷ c ∷ []) rest other is = cc
-null_field (x ∷ text) (b ∷ c ∷ []) rest other is =
-    let same = head_is x (is_tab x) (slice_split is_tab text) b c rest is in
-    let no : eqb b 92 ≡ false = grind (arith, nat_tests) in
-    rw no refl
+pub some_front : (text field left : List ℕ) → get_or text 0 0 ≢ 92 → IsFront text field left → is_null_text field ≡ false
+some_front text [] left other h = refl
+some_front text (b ∷ []) left other h = refl
+some_front text (b ∷ c ∷ []) left other h = no_slash b c (λ e. other (ap (λ t. get_or t 0 0) h.0 ∙ e))
+some_front text (b ∷ c ∷ d ∷ field) left other h = refl
 
-pub some_field : (text field : List ℕ) (behind : Option (Bor (List ℕ))) → get_or text 0 0 ≢ 92 → IsFirstField text field behind → is_null_text field ≡ false
-unfolding fields_of
-some_field text field None other h = null_field text field [] other h
-some_field text field (Some behind) other h = null_field text field (slice_split is_tab behind.now) other h.0
+pub null_front : (text left : List ℕ) → text ≡ 92 ∷ 78 ∷ left → IsFront text (92 ∷ 78 ∷ []) left
+null_front text left is = (is, (refl, (refl, tt)))
 
-pub null_first : (text left : List ℕ) (behind : Option (Bor (List ℕ))) → text ≡ 92 ∷ 78 ∷ left → EndsField left (front.Taken behind) → IsFirstField text (92 ∷ 78 ∷ []) behind
-null_first text left behind is h = first_by_end text (92 ∷ 78 ∷ []) left behind (refl, (refl, tt)) is h
+pub nothing : (xs : List ℕ) → length xs ≡ 0 → xs ≡ []
+nothing [] none = refl
+nothing (x ∷ xs) none = absurd (omega (arith, none))

@@ -1,5 +1,5 @@
 -- A row of which some fields are taken and the others walked.
-use Rattle.std.proofs.Common.{◌≡◌, add-one, ℕ, suc, zero, ◌+◌, ◌≤◌, ◌<◌, Bool, true, false, List, [], ◌∷◌, ◌++◌, length, map, get_or, set, drop, Option, Some, None, Bor, ap, sym, subst, ◌∙◌, refl, arith}
+use Rattle.std.proofs.Common.{◌≡◌, add-one, ℕ, suc, zero, ◌+◌, ◌≤◌, ◌<◌, Bool, true, false, List, [], ◌∷◌, ◌++◌, length, map, get_or, set, drop, inl, inr, ap, sym, subst, ◌∙◌, refl, arith}
 use Rattle.std.specs.Prelude.{Ok}
 use Rattle.std.proofs.lemmas.List.{append_assoc, append-nil, length_push}
 use Rattle.value_types.specs.declared.ty.Ty.{Ty}
@@ -9,15 +9,15 @@ use Rattle.typed_columns.specs.TypedValues.{TypedValues}
 use Rattle.typed_columns.specs.Growth.{trim, Fits}
 use Rattle.columns.specs.Rows.{AreLong, RowFits, pushed}
 use Rattle.columns.proofs.Rows.{length_pushed, pushed_none, trimmed}
-use Rattle.quick_rows.specs.Taking.{AreSaid, Says, TakesField}
+use Rattle.quick_rows.specs.Taking.{AreSaid, IsFront, Says, TakesField}
 use Rattle.quick_rows.specs.Keeping.{AreSteps, IsStep, kept}
-use Rattle.quick_rows.specs.proving.Walking.{FillsKept, WalksStep}
-use Rattle.quick_rows.specs.declared.field.Front.TheVariants as front
+use Rattle.quick_rows.specs.proving.Walking.{FillsKept, IsStepped}
 use Rattle.quick_rows.specs.declared.walk.Step.{Step}
 use Rattle.quick_rows.specs.declared.walk.Step.TheVariants as step
 use Rattle.value_types.specs.declared.ty.Ty.TheVariants as ty
 use Rattle.quick_rows.proofs.Walks.{step_at, steps_long}
-use Rattle.quick_rows.proofs.RowLaws.{IsTaken, field_and_left, left_fields, pushed_here, pushed_push}
+use Rattle.quick_rows.proofs.Fronts.{field_alone, field_then_tab}
+use Rattle.quick_rows.proofs.RowLaws.{IsTaken, pushed_here, pushed_push}
 
 kept_none : (keep : List Bool) → kept {A = Value} keep [] ≡ []
 kept_none [] = refl
@@ -49,15 +49,15 @@ kept_at (false ∷ keep) (u ∷ types) [] e same h is t = cc
 kept_at (true ∷ keep) (u ∷ types) (w ∷ row) e same h is t = let more = kept_at keep types row e (omega arith) (omega arith) is t in (omega (arith, more.0), more.1)
 kept_at (false ∷ keep) (u ∷ types) (w ∷ row) e same h is t = kept_at keep types row e (omega arith) (omega arith) is t
 
--- the first i fields are values, the kept ones of them stand in their columns, and with values of the other fields they are a row of the line
-pub record FilledKept (types : List Ty) (keep : List Bool) (columns now : List TypedValues) (line : List ℕ) (i at : ℕ) (left : Option (Bor (List ℕ))) : Type 0 where
+-- the first i fields are values, the kept ones of them stand in their columns, and with values of the fields that are left they are a row of the line
+pub record FilledKept (types : List Ty) (keep : List Bool) (columns now : List TypedValues) (line : List ℕ) (i at : ℕ) (left : List (List ℕ)) : Type 0 where
   pub row : List Value
   pub count : length row ≡ i
   pub places : at ≡ length (kept keep row)
   pub stand : now ≡ pushed columns (kept keep row)
-  pub rest : (tail : List Value) → IsTaken (drop i types) (left_fields left) tail → IsTaken types (fields_of line) (row ++ tail)
+  pub rest : (tail : List Value) → IsTaken (drop i types) left tail → IsTaken types (fields_of line) (row ++ tail)
 
-pub filled_none : (types : List Ty) (keep : List Bool) (columns : List TypedValues) (line : Bor (List ℕ)) → FilledKept types keep columns columns line.now 0 0 (Some line)
+pub filled_none : (types : List Ty) (keep : List Bool) (columns : List TypedValues) (line : List ℕ) → FilledKept types keep columns columns line 0 0 (fields_of line)
 filled_none types keep columns line = record {
   row = [];
   count = refl;
@@ -72,17 +72,17 @@ type_here (u ∷ ts) zero t h at = ap (λ x. x ∷ ts) (sym at)
 type_here (u ∷ ts) (suc i) t h at = type_here ts i t (omega arith) at
 
 -- one value more of the line's row
-rest_more : (types : List Ty) (line : List ℕ) (i : ℕ) (row : List Value) (left after : Option (Bor (List ℕ))) (text field : List ℕ) (t : Ty) (v : Value)
-    → ((tail : List Value) → IsTaken (drop i types) (left_fields left) tail → IsTaken types (fields_of line) (row ++ tail))
-    → left_fields left ≡ fields_of text → fields_of text ≡ field ∷ left_fields after → i < length types → t ≡ get_or types i t → Fits t v → Says t field v
-    → (tail : List Value) → IsTaken (drop (i + 1) types) (left_fields after) tail → IsTaken types (fields_of line) ((row ++ v ∷ []) ++ tail)
-rest_more types line i row left after text field t v rest here split h at fits said tail g =
+rest_more : (types : List Ty) (line : List ℕ) (i : ℕ) (row : List Value) (left after : List (List ℕ)) (field : List ℕ) (t : Ty) (v : Value)
+    → ((tail : List Value) → IsTaken (drop i types) left tail → IsTaken types (fields_of line) (row ++ tail))
+    → left ≡ field ∷ after → i < length types → t ≡ get_or types i t → Fits t v → Says t field v
+    → (tail : List Value) → IsTaken (drop (i + 1) types) after tail → IsTaken types (fields_of line) ((row ++ v ∷ []) ++ tail)
+rest_more types line i row left after field t v rest split h at fits said tail g =
     subst (IsTaken types (fields_of line)) (sym (append_assoc row (v ∷ []) tail))
     (rest (v ∷ tail) (
       subst (λ ts. RowFits ts (v ∷ tail)) (sym (type_here types i t h at)) (fits, subst (λ n. RowFits (drop n types) tail) (add-one i) g.0),
-      subst (λ fs. AreSaid (drop i types) fs (v ∷ tail)) (sym (here ∙ split))
-          (subst (λ ts. AreSaid ts (field ∷ left_fields after) (v ∷ tail)) (sym (type_here types i t h at))
-          (said, subst (λ n. AreSaid (drop n types) (left_fields after) tail) (add-one i) g.1)),
+      subst (λ fs. AreSaid (drop i types) fs (v ∷ tail)) (sym split)
+          (subst (λ ts. AreSaid ts (field ∷ after) (v ∷ tail)) (sym (type_here types i t h at))
+          (said, subst (λ n. AreSaid (drop n types) after tail) (add-one i) g.1)),
     ))
 
 type_of_column : (cs : List TypedValues) (i : ℕ) (e : TypedValues) → i < length cs → e ≡ get_or cs i e → e.ty ≡ get_or (map (λ c. c.ty) cs) i e.ty
@@ -95,21 +95,21 @@ long_map [] = refl
 long_map (c ∷ cs) = omega (arith, long_map cs)
 
 -- a column is there for a field that is kept
-pub place_within : (types : List Ty) (keep : List Bool) (columns now : List TypedValues) (line : List ℕ) (i at : ℕ) (left : Option (Bor (List ℕ))) (b : Bool) (t : Ty) → FilledKept types keep columns now line i at left
+pub place_within : (types : List Ty) (keep : List Bool) (columns now : List TypedValues) (line : List ℕ) (i at : ℕ) (left : List (List ℕ)) (b : Bool) (t : Ty) → FilledKept types keep columns now line i at left
     → length keep ≡ length types → map (λ c. c.ty) columns ≡ kept keep types → i < length types → get_or keep i b ≡ true → at < length columns
 place_within types keep columns now line i at left b t f same of h marked =
     let here = kept_at keep types f.row b same (omega (arith, f.count)) (ap (λ n. get_or keep n b) f.count ∙ marked) t in
     omega (arith, here.0, f.places, ap length of, long_map columns)
 
-pub column_within : (types : List Ty) (keep : List Bool) (columns now : List TypedValues) (line : List ℕ) (i at : ℕ) (left : Option (Bor (List ℕ))) (b : Bool) (t : Ty) → FilledKept types keep columns now line i at left
+pub column_within : (types : List Ty) (keep : List Bool) (columns now : List TypedValues) (line : List ℕ) (i at : ℕ) (left : List (List ℕ)) (b : Bool) (t : Ty) → FilledKept types keep columns now line i at left
     → length keep ≡ length types → map (λ c. c.ty) columns ≡ kept keep types → i < length types → get_or keep i b ≡ true → at < length now
 column_within types keep columns now line i at left b t f same of h marked =
     omega (arith, place_within types keep columns now line i at left b t f same of h marked, ap length f.stand, length_pushed columns (kept keep f.row))
 
-pub filled_kept : (types : List Ty) (keep : List Bool) (columns now : List TypedValues) (line : List ℕ) (i at : ℕ) (left after : Option (Bor (List ℕ))) (text field : List ℕ) (b : Bool) (e c : TypedValues) →
-    FilledKept types keep columns now line i at left → length keep ≡ length types → map (λ c. c.ty) columns ≡ kept keep types → left_fields left ≡ fields_of text → fields_of text ≡ field ∷ left_fields after →
+pub filled_kept : (types : List Ty) (keep : List Bool) (columns now : List TypedValues) (line : List ℕ) (i at : ℕ) (left after : List (List ℕ)) (field : List ℕ) (b : Bool) (e c : TypedValues) →
+    FilledKept types keep columns now line i at left → length keep ≡ length types → map (λ c. c.ty) columns ≡ kept keep types → left ≡ field ∷ after →
     i < length types → get_or keep i b ≡ true → e ≡ get_or now at e → TakesField e field c (Ok true) → FilledKept types keep columns (set now at c) line (i + 1) (at + 1) after
-filled_kept types keep columns now line i at left after text field b e c f same of here split h marked taken_at taken =
+filled_kept types keep columns now line i at left after field b e c f same of split h marked taken_at taken =
     let v = taken.0 in
     let marked_row = ap (λ n. get_or keep n b) f.count ∙ marked in
     let grown = kept_yes keep f.row v b (omega (arith, f.count, same)) marked_row in
@@ -123,20 +123,20 @@ filled_kept types keep columns now line i at left after text field b e c f same 
       count = length_push f.row v ∙ ap (λ n. n + 1) f.count;
       places = omega (arith, f.places, ap length grown, length_push (kept keep f.row) v);
       stand = ap (λ xs. set xs at c) f.stand ∙ pushed_push columns (kept keep f.row) at c e v (sym f.places) within old taken.3 ∙ ap (pushed columns) (sym grown);
-      rest = rest_more types line i f.row left after text field e.ty v f.rest here split h ty_is taken.1 taken.2;
+      rest = rest_more types line i f.row left after field e.ty v f.rest split h ty_is taken.1 taken.2;
     }
 
-pub filled_walked : (types : List Ty) (keep : List Bool) (columns now : List TypedValues) (line : List ℕ) (i at : ℕ) (left after : Option (Bor (List ℕ))) (text field : List ℕ) (b : Bool) (t : Ty) (v : Value) →
-    FilledKept types keep columns now line i at left → length keep ≡ length types → left_fields left ≡ fields_of text → fields_of text ≡ field ∷ left_fields after →
+pub filled_walked : (types : List Ty) (keep : List Bool) (columns now : List TypedValues) (line : List ℕ) (i at : ℕ) (left after : List (List ℕ)) (field : List ℕ) (b : Bool) (t : Ty) (v : Value) →
+    FilledKept types keep columns now line i at left → length keep ≡ length types → left ≡ field ∷ after →
     i < length types → get_or keep i b ≡ false → t ≡ get_or types i t → Fits t v → Says t field v → FilledKept types keep columns now line (i + 1) at after
-filled_walked types keep columns now line i at left after text field b t v f same here split h marked ty_is fits said =
+filled_walked types keep columns now line i at left after field b t v f same split h marked ty_is fits said =
     let left_out = kept_no keep f.row v b (omega (arith, f.count, same)) (ap (λ n. get_or keep n b) f.count ∙ marked) in
     record {
       row = f.row ++ v ∷ [];
       count = length_push f.row v ∙ ap (λ n. n + 1) f.count;
       places = f.places ∙ ap length (sym left_out);
       stand = f.stand ∙ ap (pushed columns) (sym left_out);
-      rest = rest_more types line i f.row left after text field t v f.rest here split h ty_is fits said;
+      rest = rest_more types line i f.row left after field t v f.rest split h ty_is fits said;
     }
 
 -- by the steps of the columns
@@ -151,21 +151,49 @@ here_too (u ∷ ts) (suc i) t h = grow u ts i t (here_too ts i t (omega arith))
     grow : (u : Ty) (ts : List Ty) (i : ℕ) (t : Ty) → get_or ts i t ≡ get_or ts i (get_or ts i t) → get_or (u ∷ ts) (suc i) t ≡ get_or (u ∷ ts) (suc i) (get_or (u ∷ ts) (suc i) t)
     grow u ts i t e = e
 
-pub filled_step : (types : List Ty) (keep : List Bool) (steps : List Step) (columns now : List TypedValues) (line : List ℕ) (i at : ℕ) (left after : Option (Bor (List ℕ))) (text : List ℕ) (s : Step) →
-    FilledKept types keep columns now line i at left → AreSteps types keep steps → left_fields left ≡ fields_of text → i < length types → WalksStep (get_or steps i s) text (front.Taken after) →
-    FilledKept types keep columns now line (i + 1) at after
-filled_step types keep steps columns now line i at left after text s f are here h walks =
+-- the same under other names
+filled_as : (types : List Ty) (keep : List Bool) (columns now same : List TypedValues) (line : List ℕ) (i at here : ℕ) (left : List (List ℕ)) → same ≡ now → here ≡ at →
+    FilledKept types keep columns now line i at left → FilledKept types keep columns same line i here left
+filled_as types keep columns now same line i at here left same_is here_is f =
+    subst (λ cs. FilledKept types keep columns cs line i here left) (sym same_is) (subst (λ n. FilledKept types keep columns now line i n left) (sym here_is) f)
+
+-- the first field of a text, and those that are left behind it: the text has a tab behind the field, or nothing
+abbrev pub Left : List ℕ → List (List ℕ) → Type 0
+Left left after = (field text : List ℕ) → IsFront text field left → fields_of text ≡ field ∷ after
+
+pub left_tab : (left behind : List ℕ) → left ≡ 9 ∷ behind → Left left (fields_of behind)
+left_tab left behind tab field text h = field_then_tab text field left behind h tab
+
+pub left_none : (left : List ℕ) → left ≡ [] → Left left []
+left_none left none field text h = field_alone text field left h none
+
+pub filled_step : (types : List Ty) (keep : List Bool) (steps : List Step) (columns now next : List TypedValues) (line : List ℕ) (i at to : ℕ) (after : List (List ℕ)) (text left : List ℕ) (s : Step) →
+    FilledKept types keep columns now line i at (fields_of text) → AreSteps types keep steps → map (λ c. c.ty) columns ≡ kept keep types → i < length types →
+    IsStepped (get_or steps i s) now at text next to left → Left left after → FilledKept types keep columns next line (i + 1) to after
+filled_step types keep steps columns now next line i at to after text left s f are of h (inl (is, e, here, c, next_is, to_is, taken)) splits =
+    filled_as types keep columns (set now at c) next line (i + 1) (at + 1) to after next_is to_is
+    (filled_kept types keep columns now line i at (fields_of text) after taken.0 false e c f (steps_long types keep steps are).0 of (splits taken.0 text taken.1) h
+    (mark_of types keep steps i false s are h is) here taken.2)
+filled_step types keep steps columns now next line i at to after text left s f are of h (inr (next_is, to_is, walks)) splits =
     let t = get_or types i ty.Str in
     let walked = walks t (get_or keep i false) (step_at types keep steps i ty.Str false s are h) in
-    filled_walked types keep columns now line i at left after text walked.1.0 false t walked.1.2 f (steps_long types keep steps are).0 here (field_and_left text walked.1.0 after walked.1.1) h walked.0
-    (here_too types i ty.Str h) walked.1.3 walked.1.4
+    let front = walked.1 in
+    filled_as types keep columns now next line (i + 1) at to after next_is to_is
+    (filled_walked types keep columns now line i at (fields_of text) after front.0 false t front.2 f (steps_long types keep steps are).0 (splits front.0 text front.1) h walked.0
+    (here_too types i ty.Str h) front.3 front.4)
 
--- the same under other names
-pub filled_as : (types : List Ty) (keep : List Bool) (columns now same : List TypedValues) (line : List ℕ) (i at here : ℕ) (left behind : Option (Bor (List ℕ))) → same ≡ now → here ≡ at → behind ≡ left →
-    FilledKept types keep columns now line i at left → FilledKept types keep columns same line i here behind
-filled_as types keep columns now same line i at here left behind same_is here_is behind_is f =
-    subst (λ cs. FilledKept types keep columns cs line i here behind) (sym same_is)
-    (subst (λ n. FilledKept types keep columns now line i n behind) (sym here_is) (subst (λ o. FilledKept types keep columns now line i at o) (sym behind_is) f))
+-- a step goes with the values before it
+pub undone : (count : ℕ) (types : List Ty) (keep : List Bool) (steps : List Step) (columns now next : List TypedValues) (line : List ℕ) (i at to : ℕ) (fields : List (List ℕ)) (text left : List ℕ) (s : Step) →
+    FilledKept types keep columns now line i at fields → AreLong columns count → AreSteps types keep steps → map (λ c. c.ty) columns ≡ kept keep types → i < length types →
+    IsStepped (get_or steps i s) now at text next to left → map (trim count) next ≡ columns
+undone count types keep steps columns now next line i at to fields text left s f long are of h (inl (is, e, here, c, next_is, to_is, taken)) =
+    let v = taken.2.0 in
+    let within = place_within types keep columns now line i at fields false e.ty f (steps_long types keep steps are).0 of h (mark_of types keep steps i false s are h is) in
+    let old = here ∙ ap (λ xs. get_or xs at e) f.stand ∙ pushed_here columns (kept keep f.row) at e (sym f.places) in
+    ap (map (trim count)) (next_is ∙ ap (λ xs. set xs at c) f.stand ∙ pushed_push columns (kept keep f.row) at c e v (sym f.places) within old taken.2.3)
+    ∙ trimmed columns (kept keep f.row ++ v ∷ []) count long
+undone count types keep steps columns now next line i at to fields text left s f long are of h (inr (next_is, to_is, walks)) =
+    ap (map (trim count)) (next_is ∙ f.stand) ∙ trimmed columns (kept keep f.row) count long
 
 none_left : (ts : List Ty) (i : ℕ) → length ts ≤ i → drop i ts ≡ []
 none_left [] zero h = refl
@@ -173,17 +201,17 @@ none_left [] (suc i) h = refl
 none_left (t ∷ ts) zero h = absurd (omega arith)
 none_left (t ∷ ts) (suc i) h = none_left ts i (omega arith)
 
-pub filled_all : (count : ℕ) (types : List Ty) (keep : List Bool) (columns now : List TypedValues) (line : List ℕ) (i at : ℕ) (left : Option (Bor (List ℕ))) → FilledKept types keep columns now line i at left →
-    length types ≤ i → left ≡ None → FillsKept count types keep columns line now (Ok true)
+pub filled_all : (count : ℕ) (types : List Ty) (keep : List Bool) (columns now : List TypedValues) (line : List ℕ) (i at : ℕ) (left : List (List ℕ)) → FilledKept types keep columns now line i at left →
+    length types ≤ i → left ≡ [] → FillsKept count types keep columns line now (Ok true)
 filled_all count types keep columns now line i at left f h none =
     let whole = f.rest [] (
       subst (λ ts. RowFits ts []) (sym (none_left types i h)) tt,
-      subst (λ ts. AreSaid ts (left_fields left) []) (sym (none_left types i h)) (subst (λ o. AreSaid [] (left_fields o) []) (sym none) tt),
+      subst (λ ts. AreSaid ts left []) (sym (none_left types i h)) (subst (λ fs. AreSaid [] fs []) (sym none) tt),
     ) in
     let row = append-nil f.row in
     (f.row, subst (RowFits types) row whole.0, subst (AreSaid types (fields_of line)) row whole.1, f.stand)
 
-pub unfilled : (count : ℕ) (types : List Ty) (keep : List Bool) (columns now : List TypedValues) (line : List ℕ) (i at : ℕ) (left : Option (Bor (List ℕ))) → FilledKept types keep columns now line i at left →
+pub unfilled : (count : ℕ) (types : List Ty) (keep : List Bool) (columns now : List TypedValues) (line : List ℕ) (i at : ℕ) (left : List (List ℕ)) → FilledKept types keep columns now line i at left →
     AreLong columns count → map (trim count) now ≡ columns
 unfilled count types keep columns now line i at left f long = ap (map (trim count)) f.stand ∙ trimmed columns (kept keep f.row) count long
 

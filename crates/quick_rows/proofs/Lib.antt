@@ -8,3 +8,4 @@ pub mod Numbers
 pub mod RowLaws
 pub mod Walks
 pub mod KeptRows
+mod Steps

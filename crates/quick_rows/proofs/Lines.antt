@@ -4,7 +4,8 @@ use Rattle.std.specs.List.{slice_split, onto_first}
 use Rattle.std.proofs.lemmas.Bool.Decides.{nat_tests}
 use Rattle.memchr.specs.Find.{IsFirstByte, is_byte}
 use Rattle.tsv_text.specs.Lines.{is_newline, lines_of, without_empty_last}
-use Rattle.quick_rows.proofs.Fronts.{Fails, fails_by, split-front, split-whole, split_here}
+use Rattle.quick_rows.specs.Taking.{Fails}
+use Rattle.quick_rows.proofs.Fronts.{fails_by, split-front, split-whole, split_here}
 
 -- a list of parts is never empty, so that the part before it is kept
 part-kept : (x : List ℕ) (text : List ℕ) → without_empty_last (x ∷ slice_split is_newline text) ≡ x ∷ without_empty_last (slice_split is_newline text)

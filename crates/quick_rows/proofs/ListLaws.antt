@@ -3,7 +3,7 @@ use Rattle.std.proofs.Common.{◌≡◌, ℕ, ◌+◌, ◌≤◌, ◌<◌, Bool,
 use Rattle.std.specs.Prelude.{Result, Ok, Err}
 use Rattle.std.specs.List.{join_with_byte, list_all, slice_split}
 use Rattle.std.proofs.lemmas.Bool.{and_parts, eqb-false}
-use Rattle.std.proofs.lemmas.List.{append_assoc, append-nil, map-append, take_all, take_at}
+use Rattle.std.proofs.lemmas.List.{append_assoc, append-nil, map-append}
 use Rattle.std.proofs.lemmas.List.Folds.{list_all-append, list_all-map}
 use Rattle.std.proofs.lemmas.List.Splits.{join_with_byte-slice_split}
 use Rattle.std.specs.Cmp.Derive.{both_true}
@@ -29,14 +29,12 @@ use Rattle.column_parts.specs.Cuts.{cuts, IsCut}
 use Rattle.column_parts.specs.NumberLists.{NumberList}
 use Rattle.column_parts.proofs.Cuts.{cuts_push}
 use Rattle.typed_columns.specs.TypedValues.{TypedValues}
-use Rattle.typed_columns.specs.Growth.{AllFit, Fits, trim, with_value, with_values}
+use Rattle.typed_columns.specs.Growth.{AllFit, Fits, with_value, with_values}
 use Rattle.tsv_values.specs.Answer.{IsFilledAnswer}
 use Rattle.tsv_values.specs.Elements.{ElementSays, OpenedSay, Spaced, all_of, onto}
-use Rattle.quick_rows.specs.declared.field.Front.{Front}
-use Rattle.quick_rows.specs.declared.field.Front.TheVariants as front
-use Rattle.quick_rows.specs.Taking.{AreElements, EndsField, IsArrayText, SaysElement, SaysFilled, TakesElement, TakesElements, TakesField, TakesFilled, TakesFirst, TakesNumber, TakesQuoted, is_quotable, lists_seen, numbers_seen, parts_of, texts_seen}
+use Rattle.quick_rows.specs.Taking.{AreElements, Fails, IsArrayText, SaysElement, SaysFilled, TakesElement, TakesElements, TakesField, TakesFilled, TakesFront, TakesNumber, TakesQuoted, is_quotable, lists_seen, numbers_seen, parts_of, texts_seen}
 use Rattle.quick_rows.proofs.FieldLaws.{filled_field, text_fits}
-use Rattle.quick_rows.proofs.Fronts.{Fails, Fails-append, IsPart, first_by_end, is_comma, kept_fails, split-front, split-whole}
+use Rattle.quick_rows.proofs.Fronts.{Fails-append, IsPart, is_comma, kept_fails, split-front, split-whole}
 use Rattle.quick_rows.proofs.Numbers.{number_element, number_fits}
 
 -- elements of a number type, and strings in quotes
@@ -139,13 +137,10 @@ some_parts : (text : List ℕ) → 0 < length text → slice_split is_comma text
 some_parts [] h = absurd (omega arith)
 some_parts (b ∷ text) h = refl
 
-grown : (old now : TypedValues) (values : List Value) → now ≡ with_values old values → trim (length old.values) now ≡ old
-grown old now values stand = ap (trim (length old.values)) stand ∙ (λ i. record { ty = old.ty; values = take_at old.values values (length old.values) refl i })
-
 -- the last element, and the closing bracket
-pub listed_all : (old now next : TypedValues) (inside left part behind after : List ℕ) (ends : Front) → Listed old now inside left → IsPart left part behind → behind ≡ 93 ∷ after →
-    TakesElement now part next (Ok true) → EndsField after ends → TakesFirst TakesElements old (91 ∷ inside) next (Ok ends)
-listed_all old now next inside left part behind after (front.Taken ends) f cut bracket taken h =
+pub listed_all : (old now next : TypedValues) (inside left part behind after : List ℕ) → Listed old now inside left → IsPart left part behind → behind ≡ 93 ∷ after →
+    TakesElement now part next (Ok true) → TakesFront TakesElements old (91 ∷ inside) next after
+listed_all old now next inside left part behind after f cut bracket taken =
     let v = taken.0 in
     let more = fit_more old now next inside left part f taken in
     let plain = kept_fails part cut.2 in
@@ -157,7 +152,7 @@ listed_all old now next inside left part behind after (front.Taken ends) f cut b
     let no_tab = Fails-append is_tab text (93 ∷ []) (Fails-append is_tab f.front part f.plain plain.1) (refl, tt) in
     let said = f.rest part (v ∷ []) (subst (λ ps. AreElements old.ty ps (v ∷ [])) (sym (split-whole is_comma part plain.0)) (more.1, tt)) in (
       field,
-      first_by_end (91 ∷ inside) field after ends (refl, no_tab) whole h,
+      (whole, (refl, no_tab)),
       (
         f.values ++ v ∷ [],
         more.0,
@@ -165,21 +160,11 @@ listed_all old now next inside left part behind after (front.Taken ends) f cut b
         more.2,
       ),
     )
-listed_all old now next inside left part behind after front.Irregular f cut bracket taken h =
-    let more = fit_more old now next inside left part f taken in
-    grown old next (f.values ++ taken.0 ∷ []) more.2
-
-pub untaken : (old now : TypedValues) → now ≡ old → trim (length old.values) now ≡ old
-untaken old now same = ap (trim (length old.values)) same ∙ (λ i. record { ty = old.ty; values = take_all (length old.values) old.values (omega arith) i })
 
 -- an array without elements
-pub listed_empty : (old : TypedValues) (text left : List ℕ) (ends : Front) → text ≡ 91 ∷ 93 ∷ left → EndsField left ends → TakesFirst TakesElements old text old (Ok ends)
-listed_empty old text left (front.Taken ends) is h = (
-  91 ∷ 93 ∷ [],
-  first_by_end text (91 ∷ 93 ∷ []) left ends (refl, (refl, tt)) is h,
-  ([], refl, ([], refl, tt), sym (λ i. record { ty = old.ty; values = append-nil old.values i })),
-)
-listed_empty old text left front.Irregular is h = untaken old old refl
+pub listed_empty : (old : TypedValues) (text left : List ℕ) → text ≡ 91 ∷ 93 ∷ left → TakesFront TakesElements old text old left
+listed_empty old text left is =
+    (91 ∷ 93 ∷ [], (is, (refl, (refl, tt))), ([], refl, ([], refl, tt), sym (λ i. record { ty = old.ty; values = append-nil old.values i })))
 
 -- what the text of an array says
 token : (b : ℕ) → Token b (b ∷ [])

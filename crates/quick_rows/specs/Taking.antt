@@ -1,12 +1,11 @@
 -- What it means that a field, and a line, was taken into columns.
-use denote.Ref.{Bor}
-use Rattle.std.specs.Prelude.{◌≡◌, ◌==◌, ◌&&◌, ◌^◌, ◌<◌, nat_lt, ℕ, length, Bool, true, false, not, List, [], ◌∷◌, ◌++◌, map, Option, None, Some, Result, Ok, Err}
+use Rattle.std.specs.Prelude.{◌≡◌, ◌==◌, ◌&&◌, ◌^◌, nat_lt, ℕ, length, Bool, true, false, not, List, [], ◌∷◌, ◌++◌, map, Result, Ok, Err}
 use Rattle.std.specs.List.{list_all, slice_split}
 use Rattle.value_lists.specs.declared.out_of_memory.OutOfMemory.{OutOfMemory}
 use Rattle.value_types.specs.Folds.{ty_of, value_of}
 use Rattle.value_types.specs.declared.ty.Ty.{Ty}
 use Rattle.value_types.specs.declared.value.Value.{Value}
-use Rattle.tsv_text.specs.Lines.{fields_of}
+use Rattle.tsv_text.specs.Lines.{fields_of, is_tab}
 use Rattle.field_texts.specs.Syntax.{IsNumber}
 use Rattle.tsv_values.specs.Answer.{IsFieldAnswer, IsFilledAnswer}
 use Rattle.tsv_values.specs.Elements.{ElementSays}
@@ -64,20 +63,22 @@ TakesText texts field after (Ok true) = (is_plain field ≡ true) × AreBytes fi
 TakesText texts field after (Ok false) = after ≡ texts
 TakesText texts field after (Err fault) = after ≡ texts
 
--- nothing follows a field, or a tab and what stands behind it
-abbrev pub EndsField : List ℕ → Front → Type 0
-EndsField left front.Irregular = Unit {0}
-EndsField left (front.Taken None) = left ≡ []
-EndsField left (front.Taken (Some behind)) = left ≡ 9 ∷ behind.now
+-- no byte passes
+abbrev pub Fails : (ℕ → Bool) → List ℕ → Type 0
+Fails p [] = Unit {0}
+Fails p (x ∷ xs) = (p x ≡ false) × Fails p xs
 
--- the first field of a text, and what stands behind its tab, if it has one
-abbrev pub IsFirstField : List ℕ → List ℕ → Option (Bor (List ℕ)) → Type 0
-IsFirstField text field None = fields_of text ≡ field ∷ []
-IsFirstField text field (Some behind) = (fields_of text ≡ field ∷ fields_of behind.now) × (length behind.now < length text)
+-- a front of a text without a tab, and what stands behind it: the first field, where that is a tab or nothing
+abbrev pub IsFront : List ℕ → List ℕ → List ℕ → Type 0
+IsFront text field left = (text ≡ field ++ left) × Fails is_tab field
 
--- the first field is taken, and what stands behind its tab is told, or nothing is taken
+-- such a front that stands in a store
+abbrev pub TakesFront : {Store : Type 0} → (Store → List ℕ → Store → Result Bool OutOfMemory → Type 0) → Store → List ℕ → Store → List ℕ → Type 0
+TakesFront Takes store text after left = (field : List ℕ) × IsFront text field left × Takes store field after (Ok true)
+
+-- a front is taken, and what stands behind it is told, or nothing is taken
 abbrev pub TakesFirst : {Store : Type 0} → (Store → List ℕ → Store → Result Bool OutOfMemory → Type 0) → Store → List ℕ → Store → Result Front OutOfMemory → Type 0
-TakesFirst Takes store text after (Ok (front.Taken behind)) = (field : List ℕ) × IsFirstField text field behind × Takes store field after (Ok true)
+TakesFirst Takes store text after (Ok (front.Taken left)) = TakesFront Takes store text after left.now
 TakesFirst Takes store text after (Ok front.Irregular) = Takes store text after (Ok false)
 TakesFirst Takes store text after (Err fault) = Takes store text after (Err fault)
 

@@ -1,24 +1,24 @@
 //! The first field of a text into its column, in one pass.
-ghost use Rattle.std.specs.Prelude.{◌≡◌, ◌==◌, ◌∷◌, [], false, length, slice_index};
+ghost use Rattle.std.specs.Prelude.{◌≡◌, ◌==◌, false, length, slice_index};
 ghost use Rattle.typed_columns.specs.Masks.{masked};
 ghost use Rattle.value_types.specs.declared.ty.Ty.TheVariants as ty;
-ghost use Rattle.quick_rows.specs.Taking.{EndsField, TakesField, TakesFilled, TakesFirst, TakesNumber, TakesText};
+ghost use Rattle.quick_rows.specs.Taking.{TakesField, TakesFilled, TakesFirst, TakesNumber, TakesText};
 
 use crate::list::take_list;
-use crate::number::front_number;
+use crate::number::{front_number, front_size};
 use crate::quoted::first_plain;
 use column_parts::{Numbers, Texts};
 use std::alloc::Global;
 use typed_columns::{Column, Kind};
 use value_types::OutOfMemory;
 
-/// What became of the first field of a text.
+/// What became of a front of a text, which has no tab.
 #[derive(Clone, Copy)]
 pub(crate) enum Front<'a> {
     /// It isn't regular, and the column is as before.
     Irregular,
-    /// It stands at the column's end, and this stands behind its tab, if it has one.
-    Taken(Option<&'a [u8]>),
+    /// It stands at the column's end, and this stands behind it. Where that is a tab or nothing, it is the first field.
+    Taken(&'a [u8]),
 }
 
 // What takes a field is made part of its caller, so that a `Front` is never written to memory.
@@ -76,12 +76,9 @@ fn take_null<'a>(
     let [b'\\', b'N', left @ ..] = text else {
         return Ok(Front::Irregular);
     };
-    let Front::Taken(behind) = end_of_field(left) else {
-        return Ok(Front::Irregular);
-    };
     if let Kind::Nullable(_, _) = &column.kind {
         column.push_null(alloc)?;
-        return Ok(Front::Taken(behind));
+        return Ok(Front::Taken(left));
     }
     Ok(Front::Irregular)
 }
@@ -111,9 +108,9 @@ fn take_some<'a>(
 {
     mask.reserve(1)?;
     match take_value(values, text) {
-        Ok(Front::Taken(behind)) => {
+        Ok(Front::Taken(left)) => {
             mask.push(false)?;
-            Ok(Front::Taken(behind))
+            Ok(Front::Taken(left))
         }
         other => other,
     }
@@ -136,14 +133,26 @@ fn take_value<'a>(values: &mut Column, text: &'a [u8]) -> Result<Front<'a>, OutO
 fn take_number<'a>(numbers: &mut Numbers, text: &'a [u8]) -> Result<Front<'a>, OutOfMemory>
     ensures { TakesFirst TakesNumber numbers.old text.now numbers.new result }
 {
+    let Some((size, left)) = front_size(text) else {
+        return take_any_number(numbers, text);
+    };
+    match numbers.take(i128::from(size)) {
+        Ok(true) => Ok(Front::Taken(left)),
+        Ok(false) => Ok(Front::Irregular),
+        Err(error) => Err(error),
+    }
+}
+
+/// The same of a number with a sign or with many digits.
+#[inline(never)]
+fn take_any_number<'a>(numbers: &mut Numbers, text: &'a [u8]) -> Result<Front<'a>, OutOfMemory>
+    ensures { TakesFirst TakesNumber numbers.old text.now numbers.new result }
+{
     let Some((number, left)) = front_number(text) else {
         return Ok(Front::Irregular);
     };
-    let Front::Taken(behind) = end_of_field(left) else {
-        return Ok(Front::Irregular);
-    };
     match numbers.take(number) {
-        Ok(true) => Ok(Front::Taken(behind)),
+        Ok(true) => Ok(Front::Taken(left)),
         Ok(false) => Ok(Front::Irregular),
         Err(error) => Err(error),
     }
@@ -153,23 +162,9 @@ fn take_number<'a>(numbers: &mut Numbers, text: &'a [u8]) -> Result<Front<'a>, O
 fn take_text<'a>(texts: &mut Texts, text: &'a [u8]) -> Result<Front<'a>, OutOfMemory>
     ensures { TakesFirst TakesText texts.old text.now texts.new result }
 {
-    match first_plain(text) {
-        Some((field, behind)) => match texts.push(field) {
-            Ok(()) => Ok(Front::Taken(behind)),
-            Err(error) => Err(error),
-        },
-        None => Ok(Front::Irregular),
-    }
-}
-
-/// What stands behind the tab that ends a field here, or nothing where the text ends it. Any other byte is irregular.
-#[inline(always)]
-pub(crate) fn end_of_field(left: &[u8]) -> Front<'_>
-    ensures { EndsField left.now result }
-{
-    match left {
-        [] => Front::Taken(None),
-        [b'\t', behind @ ..] => Front::Taken(Some(behind)),
-        _ => Front::Irregular,
+    let (field, left) = first_plain(text);
+    match texts.push(field) {
+        Ok(()) => Ok(Front::Taken(left)),
+        Err(error) => Err(error),
     }
 }

@@ -1,8 +1,9 @@
 //! A line into columns of some of its fields: the others are judged, and not kept.
-ghost use Rattle.std.specs.Prelude.{◌≡◌, length, map};
+ghost use Rattle.std.specs.Prelude.{◌≡◌, ◌<◌, length, map};
 ghost use Rattle.columns.specs.Rows.{AreLong};
 ghost use Rattle.quick_rows.specs.Keeping.{AreSteps, TakesKept, kept};
-ghost use Rattle.quick_rows.specs.proving.Walking.{FillsKept};
+ghost use Rattle.quick_rows.specs.declared.walk.Step.TheVariants.{Keep};
+ghost use Rattle.quick_rows.specs.proving.Walking.{FillsKept, StepsFirst};
 
 use crate::field::{Front, take_first};
 use crate::row::Taken;
@@ -13,7 +14,7 @@ use typed_columns::Column;
 use value_types::{OutOfMemory, Ty};
 
 /// Takes the marked fields of a regular line as the last row of a batch, whose columns are those of the marked types; the other fields are
-/// judged, by the steps that [`crate::step_of`] tells. As [`crate::take_row`] else; NULL is regular only where it is kept.
+/// judged, by the steps that [`crate::step_of`] tells. As [`crate::take_row`] else.
 ///
 /// # Errors
 ///
@@ -50,6 +51,28 @@ pub fn take_kept(
     }
 }
 
+/// Takes a front of a text into the column at a place, or judges it, by the step of its column; tells what stands behind it.
+#[inline(always)]
+fn step_first<'a>(
+    columns: &mut Vec<Column>,
+    alloc: Global,
+    at: &mut usize,
+    step: Step,
+    text: &'a [u8],
+) -> Result<Front<'a>, OutOfMemory>
+    requires { step ≡ Keep → at.old < length columns.old.items }
+    ensures { StepsFirst step columns.old.items at.old text.now columns.new.items at.new result }
+{
+    match step {
+        Step::Keep => {
+            let place = *at;
+            *at = place + 1;
+            take_first(&mut columns[place], alloc, text)
+        }
+        step => Ok(walk_first(step, text)),
+    }
+}
+
 /// Takes each marked field into the next column and judges the others, as long as they are regular. The columns have `count` values before.
 #[inline(never)]
 fn fill_kept(
@@ -66,29 +89,24 @@ fn fill_kept(
     requires types { map (λ c. c.ty) columns.old.items ≡ kept keep.now types.now }
     ensures { FillsKept count types.now keep.now columns.old.items line.now columns.new.items result }
 {
-    let mut left = Some(line);
+    let mut text = line;
     let mut at = 0;
     for i in 0..steps.len() {
-        let Some(text) = left else {
-            return Ok(false);
+        let left = match step_first(columns, alloc, &mut at, steps[i], text) {
+            Ok(Front::Taken(left)) => left,
+            Ok(Front::Irregular) => return Ok(false),
+            Err(error) => return Err(error),
         };
-        match steps[i] {
-            Step::Keep => {
-                match take_first(&mut columns[at], alloc, text) {
-                    Ok(Front::Taken(behind)) => left = behind,
-                    Ok(Front::Irregular) => return Ok(false),
-                    Err(error) => return Err(error),
+        match left {
+            [b'\t', behind @ ..] => text = behind,
+            [] => {
+                if i + 1 == steps.len() {
+                    return Ok(true);
                 }
-                at += 1;
+                return Ok(false);
             }
-            step => match walk_first(step, text) {
-                Front::Taken(behind) => left = behind,
-                Front::Irregular => return Ok(false),
-            },
+            _ => return Ok(false),
         }
     }
-    match left {
-        None => Ok(true),
-        Some(_) => Ok(false),
-    }
+    Ok(false)
 }

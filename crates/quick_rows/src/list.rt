@@ -1,9 +1,9 @@
 //! An array at the front of a text into the column of its elements.
 ghost use Rattle.std.specs.Prelude.{◌≡◌, ◌∷◌, length};
-ghost use Rattle.column_parts.specs.Cuts.{cuts, IsCut};
+ghost use Rattle.column_parts.specs.Cuts.{IsCut};
 ghost use Rattle.quick_rows.specs.Taking.{TakesElements, TakesField, TakesFirst, lists_seen, numbers_seen, texts_seen};
 
-use crate::field::{Front, end_of_field};
+use crate::field::Front;
 use crate::number::front_number;
 use crate::quoted::front_quoted;
 use column_parts::{Numbers, Texts};
@@ -25,9 +25,9 @@ pub(crate) fn take_list<'a>(
     starts.reserve(1)?;
     let before = elements.len();
     match take_elements(elements, text) {
-        Ok(Front::Taken(behind)) => {
+        Ok(Front::Taken(left)) => {
             starts.push(elements.len())?;
-            Ok(Front::Taken(behind))
+            Ok(Front::Taken(left))
         }
         Ok(Front::Irregular) => {
             elements.truncate(before);
@@ -45,7 +45,7 @@ fn take_elements<'a>(elements: &mut Column, text: &'a [u8]) -> Result<Front<'a>,
     ensures { TakesFirst TakesElements elements.old text.now elements.new result }
 {
     match text {
-        [b'[', b']', left @ ..] => Ok(end_of_field(left)),
+        [b'[', b']', left @ ..] => Ok(Front::Taken(left)),
         [b'[', inside @ ..] => take_inside(elements, inside),
         _ => Ok(Front::Irregular),
     }
@@ -77,7 +77,7 @@ fn take_numbers<'a>(numbers: &mut Numbers, inside: &'a [u8]) -> Result<Front<'a>
         }
         match behind {
             [b',', after @ ..] => left = after,
-            [b']', after @ ..] => return Ok(end_of_field(after)),
+            [b']', after @ ..] => return Ok(Front::Taken(after)),
             _ => return Ok(Front::Irregular),
         }
     }
@@ -96,7 +96,7 @@ fn take_texts<'a>(texts: &mut Texts, inside: &'a [u8]) -> Result<Front<'a>, OutO
         }
         match behind {
             [b',', after @ ..] => left = after,
-            [b']', after @ ..] => return Ok(end_of_field(after)),
+            [b']', after @ ..] => return Ok(Front::Taken(after)),
             _ => return Ok(Front::Irregular),
         }
     }

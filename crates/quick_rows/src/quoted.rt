@@ -1,20 +1,17 @@
 //! Strings without an escape.
 ghost use Rattle.std.specs.Prelude.{◌≡◌, ◌==◌, ◌||◌, ◌∷◌, ◌++◌, IfSome, position, true};
-ghost use Rattle.quick_rows.specs.Taking.{AreBytes, IsFirstField, is_bare, is_plain};
+ghost use Rattle.quick_rows.specs.Taking.{AreBytes, IsFront, is_bare, is_plain};
 
-/// The first field, if it has no backslash, and what stands behind its tab, if it has one.
-#[inline]
-pub(crate) fn first_plain(text: &[u8]) -> Option<(&[u8], Option<&[u8]>)>
-    ensures { IfSome result (λ found. IsFirstField text.now found.0.now found.1 × (is_plain found.0.now ≡ true) × AreBytes found.0.now) }
+/// What stands before the first tab or backslash, and what follows.
+#[inline(always)]
+pub(crate) fn first_plain(text: &[u8]) -> (&[u8], &[u8])
+    ensures front { IsFront text.now result.0.now result.1.now }
+    ensures plain { is_plain result.0.now ≡ true }
+    ensures bytes { AreBytes result.0.now }
 {
     match plain_end(text) {
-        Some(at) => {
-            if text[at] == b'\t' {
-                return Some((&text[..at], Some(text.split_at(at + 1).1)));
-            }
-            None
-        }
-        None => Some((text, None)),
+        Some(at) => text.split_at(at),
+        None => text.split_at(text.len()),
     }
 }
 

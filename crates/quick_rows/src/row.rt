@@ -59,19 +59,23 @@ fn fill(
     requires long { AreLong columns.old.items count }
     ensures { FillsColumns count columns.old.items line.now columns.new.items result }
 {
-    let mut left = Some(line);
+    let mut text = line;
     for i in 0..columns.len() {
-        let Some(text) = left else {
-            return Ok(false);
-        };
-        match take_first(&mut columns[i], alloc, text) {
-            Ok(Front::Taken(behind)) => left = behind,
+        let left = match take_first(&mut columns[i], alloc, text) {
+            Ok(Front::Taken(left)) => left,
             Ok(Front::Irregular) => return Ok(false),
             Err(error) => return Err(error),
+        };
+        match left {
+            [b'\t', behind @ ..] => text = behind,
+            [] => {
+                if i + 1 == columns.len() {
+                    return Ok(true);
+                }
+                return Ok(false);
+            }
+            _ => return Ok(false),
         }
     }
-    match left {
-        None => Ok(true),
-        Some(_) => Ok(false),
-    }
+    Ok(false)
 }

@@ -1,15 +1,15 @@
-//! The first field of a text, judged and not kept: the same fields are regular as in field.rt, but for NULL.
-ghost use Rattle.std.specs.Prelude.{◌≡◌, ◌++◌, ◌∷◌, List, ℕ, pos, IfSome, IsTrue, length};
+//! A front of a text, judged and not kept: the same fields are regular as in field.rt.
+ghost use Rattle.std.specs.Prelude.{◌≡◌, ◌++◌, ◌∷◌, List, ℕ, pos, IfSome, IsTrue};
 ghost use Rattle.field_texts.specs.Syntax.{IsNumber};
 ghost use Rattle.scalar_texts.specs.Numbers.{number_value, signed};
 ghost use Rattle.column_parts.specs.NumberLists.{IsOf, greatest, least};
 ghost use Rattle.typed_columns.specs.Views.{number_ty};
 ghost use Rattle.value_types.specs.declared.ty.Ty.TheVariants as ty;
 ghost use Rattle.quick_rows.specs.Keeping.{IsStep};
-ghost use Rattle.quick_rows.specs.proving.Walking.{IsArrayStep, IsNullableStep, WalksElements, WalksFirst, WalksNumber, WalksStep, WalksText, element_ty};
+ghost use Rattle.quick_rows.specs.proving.Walking.{IsArrayStep, IsNullableStep, WalksElements, WalksFirst, WalksNumber, WalksStep, WalksText, element_ty, safe_digits};
 
-use crate::field::{Front, end_of_field};
-use crate::number::{front_digits, front_number, split_sign};
+use crate::field::Front;
+use crate::number::{digit_count, front_digits, front_number, split_sign};
 use crate::quoted::{first_plain, front_quoted};
 use column_parts::NumberType;
 use value_types::Ty;
@@ -73,7 +73,7 @@ fn step_of_array(of: &Ty) -> Step
     }
 }
 
-/// Judges the first field of a text, and tells what stands behind its tab.
+/// Judges a front of a text, and tells what stands behind it.
 #[inline(always)]
 #[tactic(auto, using(crate::proofs::Walks::step_laws))]
 pub(crate) fn walk_first<'a>(step: Step, text: &'a [u8]) -> Front<'a>
@@ -171,18 +171,41 @@ fn is_sized(kind: NumberType, minus: bool, size: u64) -> bool
     }
 }
 
+/// How many digits a number may have that is of a type whatever they are.
+#[inline(always)]
+fn safe_digits(kind: NumberType) -> usize
+    ensures { result ≡ safe_digits kind }
+{
+    match kind {
+        NumberType::U8 | NumberType::I8 => 2,
+        NumberType::U16 | NumberType::I16 => 4,
+        NumberType::U32 | NumberType::I32 => 9,
+        NumberType::I64 => 18,
+        NumberType::U64 => 19,
+    }
+}
+
 #[inline(always)]
 fn walk_number<'a>(kind: NumberType, text: &'a [u8]) -> Front<'a>
+    ensures { WalksNumber kind text.now result }
+{
+    let count = digit_count(text);
+    if count == 0 || count > safe_digits(kind) {
+        return walk_any_number(kind, text);
+    }
+    Front::Taken(text.split_at(count).1)
+}
+
+/// The same of a number with a sign or with many digits.
+#[inline(never)]
+fn walk_any_number<'a>(kind: NumberType, text: &'a [u8]) -> Front<'a>
     ensures { WalksNumber kind text.now result }
 {
     let Some(((minus, size), left)) = front_sized(text) else {
         return Front::Irregular;
     };
-    let Front::Taken(behind) = end_of_field(left) else {
-        return Front::Irregular;
-    };
     if is_sized(kind, minus, size) {
-        return Front::Taken(behind);
+        return Front::Taken(left);
     }
     Front::Irregular
 }
@@ -191,10 +214,8 @@ fn walk_number<'a>(kind: NumberType, text: &'a [u8]) -> Front<'a>
 fn walk_text<'a>(text: &'a [u8]) -> Front<'a>
     ensures { WalksText text.now result }
 {
-    match first_plain(text) {
-        Some((_, behind)) => Front::Taken(behind),
-        None => Front::Irregular,
-    }
+    let (_, left) = first_plain(text);
+    Front::Taken(left)
 }
 
 // The same of a number of a type, or of a string, where NULL may stand.
@@ -203,7 +224,7 @@ fn walk_nullable<'a>(kind: Option<NumberType>, text: &'a [u8]) -> Front<'a>
     ensures { WalksFirst (ty.Nullable (element_ty kind)) text.now result }
 {
     match text {
-        [b'\\', b'N', left @ ..] => end_of_field(left),
+        [b'\\', b'N', left @ ..] => Front::Taken(left),
         _ => walk_filled(kind, text),
     }
 }
@@ -226,7 +247,7 @@ fn walk_list<'a>(kind: Option<NumberType>, text: &'a [u8]) -> Front<'a>
     ensures { WalksElements (element_ty kind) text.now result }
 {
     match text {
-        [b'[', b']', left @ ..] => end_of_field(left),
+        [b'[', b']', left @ ..] => Front::Taken(left),
         [b'[', inside @ ..] => walk_inside(kind, inside),
         _ => Front::Irregular,
     }
@@ -243,7 +264,7 @@ fn walk_inside<'a>(kind: Option<NumberType>, inside: &'a [u8]) -> Front<'a>
     }
 }
 
-#[inline(always)]
+#[inline(never)]
 fn walk_numbers<'a>(kind: NumberType, inside: &'a [u8]) -> Front<'a>
     ensures { WalksElements (number_ty kind) (91 ∷ inside.now) result }
 {
@@ -254,7 +275,7 @@ fn walk_numbers<'a>(kind: NumberType, inside: &'a [u8]) -> Front<'a>
         }
         match behind {
             [b',', after @ ..] => left = after,
-            [b']', after @ ..] => return end_of_field(after),
+            [b']', after @ ..] => return Front::Taken(after),
             _ => return Front::Irregular,
         }
     }
@@ -269,7 +290,7 @@ fn walk_texts<'a>(inside: &'a [u8]) -> Front<'a>
     while let Some((_, behind)) = front_quoted(left) {
         match behind {
             [b',', after @ ..] => left = after,
-            [b']', after @ ..] => return end_of_field(after),
+            [b']', after @ ..] => return Front::Taken(after),
             _ => return Front::Irregular,
         }
     }

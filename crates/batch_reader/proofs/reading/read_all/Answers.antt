@@ -1,8 +1,10 @@
-use Rattle.std.proofs.Common.{List, Err, ap, arith, length, subst, ℕ}
+use Rattle.std.proofs.Common.{List, Result, Err, ap, arith, length, refl, subst, sym, ℕ}
 use Rattle.tsv_text.specs.Lines.{lines_of}
-use Rattle.line_reader.specs.declared.stop.Stop.TheVariants as stop
+use Rattle.columns.specs.Rows.{Rows}
 use Rattle.batch_reader.specs.proving.Pushing.{PushesBlock}
-use Rattle.batch_reader.proofs.Blocks.{refused-cause}
+use Rattle.batch_reader.specs.Reading.{ReadsRows, RowCause}
+use Rattle.batch_reader.specs.declared.fault.RowFault.{RowFault}
+use Rattle.batch_reader.proofs.Blocks.{ended, ended-cause, refused-cause}
 use Rattle.batch_reader.proofs.Pending.{first-block, last-block, next-block, pending-refused}
 use Rattle.batch_reader.proofs.reading.read_all.Goals as goal
 
@@ -40,26 +42,19 @@ returns-in-Err-push_last-clause-rows g c =
     c.args.ahead.now c.loop.ahead c.loop.batch c.push_last.new.batch c.loop.block c.loop.stop (g.S.Source.faults c.args.source.now) (g.S.Source.faults c.loop.source) c.loop.lanes.items
     c.in-Err-push_last.fault c.loop.invariant pushed
 
-pub returns-in-End-clause-rows : goal.returns-in-End-clause-rows
-returns-in-End-clause-rows g c =
-    last-block (g.R.StateReader.reads c.args.reader.now) c.args.types.now (g.S.Source.left c.args.source.now) (g.S.Source.left c.loop.source)
-    c.args.ahead.now c.loop.ahead c.loop.batch c.push_last.new.batch c.loop.block c.as_slice-text.result.now c.loop.stop stop.End (g.S.Source.faults c.args.source.now) (g.S.Source.faults c.loop.source)
-    c.in-Ok-push_last.next c.loop.lanes.items c.loop.invariant c.as_slice-text.ensures c.in-Ok-push_last.ensures c.in-End.is
+pub returns-in-Ok-push_last-clause-rows : goal.returns-in-Ok-push_last-clause-rows
+returns-in-Ok-push_last-clause-rows g c =
+    let reads = g.R.StateReader.reads c.args.reader.now in
+    let left = g.S.Source.left c.args.source.now in
+    let now = g.S.Source.left c.loop.source in
+    let n = c.in-Ok-push_last.next in
+    let exit = last-block reads c.args.types.now left now c.args.ahead.now c.loop.ahead c.loop.batch c.push_last.new.batch c.loop.block c.as_slice-text.result.now c.loop.stop c.loop.stop
+    (g.S.Source.faults c.args.source.now) (g.S.Source.faults c.loop.source) n c.loop.lanes.items c.loop.invariant c.as_slice-text.ensures c.in-Ok-push_last.ensures refl in
+    subst (λ (answer : Result Rows RowFault). ReadsRows reads c.args.types.now left now c.args.ahead.now answer) (sym c.ending.ensures)
+    (ended reads c.args.types.now left now c.args.ahead.now c.loop.ahead c.push_last.new.batch n c.loop.stop exit)
 
-pub returns-in-Read-clause-rows : goal.returns-in-Read-clause-rows
-returns-in-Read-clause-rows g c =
-    last-block (g.R.StateReader.reads c.args.reader.now) c.args.types.now (g.S.Source.left c.args.source.now) (g.S.Source.left c.loop.source)
-    c.args.ahead.now c.loop.ahead c.loop.batch c.push_last.new.batch c.loop.block c.as_slice-text.result.now c.loop.stop stop.Read (g.S.Source.faults c.args.source.now) (g.S.Source.faults c.loop.source)
-    c.in-Ok-push_last.next c.loop.lanes.items c.loop.invariant c.as_slice-text.ensures c.in-Ok-push_last.ensures c.in-Read.is
-
-pub returns-in-TooLong-clause-rows : goal.returns-in-TooLong-clause-rows
-returns-in-TooLong-clause-rows g c =
-    last-block (g.R.StateReader.reads c.args.reader.now) c.args.types.now (g.S.Source.left c.args.source.now) (g.S.Source.left c.loop.source)
-    c.args.ahead.now c.loop.ahead c.loop.batch c.push_last.new.batch c.loop.block c.as_slice-text.result.now c.loop.stop stop.TooLong (g.S.Source.faults c.args.source.now) (g.S.Source.faults c.loop.source)
-    c.in-Ok-push_last.next c.loop.lanes.items c.loop.invariant c.as_slice-text.ensures c.in-Ok-push_last.ensures c.in-TooLong.is
-
-pub returns-in-TooLarge-clause-rows : goal.returns-in-TooLarge-clause-rows
-returns-in-TooLarge-clause-rows g c =
-    last-block (g.R.StateReader.reads c.args.reader.now) c.args.types.now (g.S.Source.left c.args.source.now) (g.S.Source.left c.loop.source)
-    c.args.ahead.now c.loop.ahead c.loop.batch c.push_last.new.batch c.loop.block c.as_slice-text.result.now c.loop.stop stop.TooLarge (g.S.Source.faults c.args.source.now) (g.S.Source.faults c.loop.source)
-    c.in-Ok-push_last.next c.loop.lanes.items c.loop.invariant c.as_slice-text.ensures c.in-Ok-push_last.ensures c.in-TooLarge.is
+pub returns-in-Ok-push_last-clause-cause : goal.returns-in-Ok-push_last-clause-cause
+returns-in-Ok-push_last-clause-cause g c =
+    let so_far = c.loop.invariant in
+    subst (λ (answer : Result Rows RowFault). RowCause (g.S.Source.faults c.args.source.now) (g.S.Source.faults c.loop.source) answer) (sym c.ending.ensures)
+    (ended-cause (g.S.Source.faults c.args.source.now) so_far.faults (g.S.Source.faults c.loop.source) c.in-Ok-push_last.next c.push_last.new.batch c.loop.stop so_far.quiet so_far.cause)

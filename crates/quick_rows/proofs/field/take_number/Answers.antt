@@ -1,10 +1,10 @@
-use Rattle.std.proofs.Common.{◌≡◌, subst, to_z, of_z, rules, true}
+use Rattle.std.proofs.Common.{◌≡◌, ◌∙◌, pos, subst, to_z, of_z, rules, true}
 use Rattle.std.specs.Int.{w128}
 use Rattle.std.specs.Prelude.{Ok}
 use Rattle.column_parts.specs.NumberLists.{Took}
 use Rattle.quick_rows.proofs.FieldLaws.{number_taken}
 use Rattle.quick_rows.proofs.FrontDigits.{number_part}
-use Rattle.quick_rows.proofs.Fronts.{part_field}
+use Rattle.quick_rows.proofs.Fronts.{part_front}
 use Rattle.quick_rows.proofs.field.take_number.Goals as goal
 
 pub returns-in-Ok-true : goal.returns-in-Ok-true
@@ -12,9 +12,10 @@ returns-in-Ok-true c =
     let found = c.in-Some.ensures in
     let text = c.args.text.now in
     let left = c.in-Some.left.now in
-    let whole : to_z w128 (of_z w128 c.in-Some.number) ≡ c.in-Some.number = search rules in
-    let took = subst (λ b. Took c.args.numbers.now c.in-Some.number c.take.new.self (Ok b)) c.in-Ok-true.field-0-test (subst (λ z. Took c.args.numbers.now z c.take.new.self (Ok c.in-Ok-true.field-0)) whole c.in-Ok-true.ensures) in (
+    let whole : to_z w128 (of_z w128 c.from.result) ≡ c.from.result = search rules in
+    let took = subst (λ b. Took c.args.numbers.now (pos c.in-Some.size) c.take.new.self (Ok b)) c.in-Ok-true.field-0-test
+    (subst (λ z. Took c.args.numbers.now z c.take.new.self (Ok c.in-Ok-true.field-0)) (whole ∙ c.from.ensures) c.in-Ok-true.ensures) in (
       found.0,
-      part_field text found.0 left c.in-Taken.behind (number_part text found.0 left found.1 found.2) c.in-Taken.ensures,
-      number_taken c.args.numbers.now c.take.new.self found.0 c.in-Some.number (Ok true) found.2 found.3 took,
+      part_front text found.0 left (number_part text found.0 left found.1 found.2),
+      number_taken c.args.numbers.now c.take.new.self found.0 (pos c.in-Some.size) (Ok true) found.2 found.3 took,
     )

@@ -6,6 +6,6 @@ use Rattle.quick_rows.proofs.field.take_some.Goals as goal
 
 pub returns-in_ok-push-in-Ok-Taken-clause-taken : goal.returns-in_ok-push-in-Ok-Taken-clause-taken
 returns-in_ok-push-in-Ok-Taken-clause-taken c =
-    some_first c.args.mask.now.items c.push.new.self.items c.args.values.now c.take_value.new.values c.args.text.now c.in-Ok-Taken.behind c.requires.alike
+    some_first c.args.mask.now.items c.push.new.self.items c.args.values.now c.take_value.new.values c.args.text.now c.in-Ok-Taken.left.now c.requires.alike
     (c.in_ok-push-in-Ok-Taken.ensures.items ∙ ap (λ xs. xs ++ false ∷ []) c.in_ok-reserve.ensures.items)
     (subst (λ f. TakesFirst TakesFilled c.args.values.now c.args.text.now c.take_value.new.values (Ok f)) c.in-Ok-Taken.field-0-is c.in-Ok-Taken.ensures)

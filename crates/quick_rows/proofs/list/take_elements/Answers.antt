@@ -6,4 +6,4 @@ use Rattle.quick_rows.proofs.list.take_elements.Goals as goal
 pub returns-in-91 : goal.returns-in-91
 returns-in-91 c =
     let text = c.args.text.now in
-    listed_empty c.args.elements.now text (take (length text - 2) (drop 2 text)) c.end_of_field.result (front_two text 91 93 (omega arith) (omega arith) (omega arith)) c.end_of_field.ensures
+    listed_empty c.args.elements.now text (take (length text - 2) (drop 2 text)) (front_two text 91 93 (omega arith) (omega arith) (omega arith))

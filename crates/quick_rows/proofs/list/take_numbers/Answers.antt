@@ -35,5 +35,5 @@ returns-in-93 c =
     let whole : to_z w128 (of_z w128 c.in-Some.number) ≡ c.in-Some.number = search rules in
     let took = subst (λ b. Took old c.in-Some.number new (Ok b)) c.in-Ok-true.field-0-test (subst (λ z. Took old z new (Ok c.in-Ok-true.field-0)) whole c.in-Ok-true.ensures) in
     let element = numbers_element old new found.0 (Ok true) (number_taken old new found.0 c.in-Some.number (Ok true) found.2 found.3 took) in
-    listed_all (numbers_seen c.args.numbers.now) (numbers_seen old) (numbers_seen new) c.args.inside.now left found.0 behind (take (length behind - 1) (drop 1 behind)) c.end_of_field.result
-    c.loop-number.invariant (number_part left found.0 behind found.1 found.2) (front_one behind 93 (omega arith) (omega arith)) element c.end_of_field.ensures
+    listed_all (numbers_seen c.args.numbers.now) (numbers_seen old) (numbers_seen new) c.args.inside.now left found.0 behind (take (length behind - 1) (drop 1 behind))
+    c.loop-number.invariant (number_part left found.0 behind found.1 found.2) (front_one behind 93 (omega arith) (omega arith)) element

@@ -29,5 +29,5 @@ returns-in-93 c =
     let behind = c.in-Some.behind.now in
     let found = c.in-Some.ensures in
     let quoted = quoted_part c.loop-text.left.now text behind found.0 found.1 in
-    listed_all (texts_seen c.args.texts.now) (texts_seen old) (texts_seen new) c.args.inside.now c.loop-text.left.now part behind (take (length behind - 1) (drop 1 behind)) c.end_of_field.result c.loop-text.invariant quoted.0
-    (front_one behind 93 (omega arith) (omega arith)) (texts_element old new part (Ok true) (text, refl, quoted.1, found.2, c.in-Ok.ensures.ok)) c.end_of_field.ensures
+    listed_all (texts_seen c.args.texts.now) (texts_seen old) (texts_seen new) c.args.inside.now c.loop-text.left.now part behind (take (length behind - 1) (drop 1 behind)) c.loop-text.invariant quoted.0
+    (front_one behind 93 (omega arith) (omega arith)) (texts_element old new part (Ok true) (text, refl, quoted.1, found.2, c.in-Ok.ensures.ok))

@@ -7,4 +7,4 @@ use Rattle.quick_rows.proofs.walk.walk_list.Goals as goal
 pub returns-in-91 : goal.returns-in-91
 returns-in-91 c =
     let text = c.args.text.now in
-    none_walked (element_ty c.args.kind) text (take (length text - 2) (drop 2 text)) c.end_of_field.result (front_two text 91 93 (omega arith) (omega arith) (omega arith)) c.end_of_field.ensures
+    none_walked (element_ty c.args.kind) text (take (length text - 2) (drop 2 text)) (front_two text 91 93 (omega arith) (omega arith) (omega arith))

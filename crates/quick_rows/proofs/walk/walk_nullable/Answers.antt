@@ -7,4 +7,4 @@ use Rattle.quick_rows.proofs.walk.walk_nullable.Goals as goal
 pub returns-in-92 : goal.returns-in-92
 returns-in-92 c =
     let text = c.args.text.now in
-    null_walked (element_ty c.args.kind) text (take (length text - 2) (drop 2 text)) c.end_of_field.result (front_two text 92 78 (omega arith) (omega arith) (omega arith)) c.end_of_field.ensures
+    null_walked (element_ty c.args.kind) text (take (length text - 2) (drop 2 text)) (front_two text 92 78 (omega arith) (omega arith) (omega arith))

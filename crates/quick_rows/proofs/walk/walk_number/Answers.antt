@@ -1,11 +1,9 @@
-use Rattle.std.proofs.Common.{ℤ, refl, subst, sym}
-use Rattle.column_parts.specs.NumberLists.{IsOf}
-use Rattle.quick_rows.specs.declared.field.Front.TheVariants as front
-use Rattle.quick_rows.proofs.Walks.{number_passed}
+use Rattle.std.proofs.Common.{arith}
+use Rattle.quick_rows.proofs.Walks.{digits_passed}
 use Rattle.quick_rows.proofs.walk.walk_number.Goals as goal
 
-pub returns-then-is_sized : goal.returns-then-is_sized
-returns-then-is_sized c =
-    let found = c.in-Some.ensures in
-    number_passed c.args.kind c.args.text.now found.0 c.in-Some.left.now (front.Taken c.in-Taken.behind) found.1 found.2
-    (subst (λ (z : ℤ). IsOf c.args.kind z) (sym found.3) (c.if-is_sized.ensures refl)) c.in-Taken.ensures
+pub returns : goal.returns
+returns c =
+    let count = c.digit_count-count.result in
+    digits_passed c.args.kind c.args.text.now _ count c.digit_count-count.ensures.within c.digit_count-count.ensures.digits c.if-count-eq0.false
+    (omega (arith, c.if-count-safe_digits.false, c.safe_digits.ensures)) c.split_at.ensures.back

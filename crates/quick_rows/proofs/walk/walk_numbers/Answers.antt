@@ -23,5 +23,5 @@ returns-in-93 c =
     let found = c.in-Some.ensures in
     let whole : to_z w128 (of_z w128 c.in-Some.number) ≡ c.in-Some.number = search rules in
     let fits = subst (λ (z : ℤ). IsOf c.args.kind z) (whole ∙ sym found.3) (c.if-not-is_of.ensures refl) in
-    numbers_all c.args.kind c.args.inside.now c.loop-number.left.now found.0 behind (take (length behind - 1) (drop 1 behind)) c.end_of_field.result c.loop-number.invariant found.1 found.2 fits
-    (front_one behind 93 (omega arith) (omega arith)) c.end_of_field.ensures
+    numbers_all c.args.kind c.args.inside.now c.loop-number.left.now found.0 behind (take (length behind - 1) (drop 1 behind)) c.loop-number.invariant found.1 found.2 fits
+    (front_one behind 93 (omega arith) (omega arith))

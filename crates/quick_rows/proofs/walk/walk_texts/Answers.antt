@@ -22,5 +22,5 @@ returns-in-93 c =
     let left = c.loop-behind.left.now in
     let found = c.in-Some.ensures in
     let quoted = quoted_part left text behind found.0 found.1 in
-    texts_all c.args.inside.now left text behind (take (length behind - 1) (drop 1 behind)) c.end_of_field.result c.loop-behind.invariant quoted.0 quoted.1 found.2
-    (front_one behind 93 (omega arith) (omega arith)) c.end_of_field.ensures
+    texts_all c.args.inside.now left text behind (take (length behind - 1) (drop 1 behind)) c.loop-behind.invariant quoted.0 quoted.1 found.2
+    (front_one behind 93 (omega arith) (omega arith))
