@@ -4,14 +4,9 @@ ghost use Rattle.line_reader.specs.Limits.{IsUnbroken};
 ghost use Rattle.line_reader.specs.Filling.{FillCause, FillsBlock, HasCut, IsOpen, StopsHere};
 
 use crate::searching::{Break, count_newlines, find_break, whole_len};
-use crate::{Block, Stop};
+use crate::{Block, BlockSize, Stop};
 use agg_ports::{Source, Taken};
 use value_lists::OutOfMemory;
-
-// How many lines or bytes make a block.
-const BLOCK_LINES: usize = 65_536;
-
-const BLOCK_BYTES: usize = 16_777_216;
 
 // How many bytes are taken at once, but for longer lines: few enough to stay in a processor's cache until they are read.
 const PIECE: usize = 262_144;
@@ -47,7 +42,14 @@ fn next_cut(bytes: &[u8], cut: usize, most_line: u64, room: u64) -> usize
 }
 
 // Whether the block is complete, or a limit is broken behind its whole lines.
-fn stop_at(bytes: &[u8], cut: usize, lines: usize, most_line: u64, room: u64) -> Option<Stop>
+fn stop_at(
+    bytes: &[u8],
+    cut: usize,
+    lines: usize,
+    size: BlockSize,
+    most_line: u64,
+    room: u64,
+) -> Option<Stop>
     requires cut { HasCut most_line room bytes.now cut }
     requires unbroken { IsUnbroken (take (room - cut) (drop cut bytes.now)) }
     ensures stop { IfSome result (StopsHere most_line room bytes.now cut) }
@@ -56,7 +58,7 @@ fn stop_at(bytes: &[u8], cut: usize, lines: usize, most_line: u64, room: u64) ->
     match find_break(&bytes[cut..], most_line, room - cut as u64) {
         Some(Break::TooLong) => Some(Stop::TooLong),
         Some(Break::TooLarge) => Some(Stop::TooLarge),
-        None if cut > 0 && (lines >= BLOCK_LINES || cut >= BLOCK_BYTES) => Some(Stop::More),
+        None if cut > 0 && (lines >= size.lines || cut >= size.bytes) => Some(Stop::More),
         None => None,
     }
 }
@@ -70,6 +72,7 @@ fn stop_at(bytes: &[u8], cut: usize, lines: usize, most_line: u64, room: u64) ->
 pub(crate) fn fill<S: Source>(
     source: &mut S,
     block: &mut Block,
+    size: BlockSize,
     most_line: u64,
     room: u64,
 ) -> Result<(Stop, usize), OutOfMemory>
@@ -84,7 +87,7 @@ pub(crate) fn fill<S: Source>(
         let next = next_cut(block.as_slice(), cut, most_line, room);
         lines = lines.saturating_add(count_newlines(&block.as_slice()[cut..next]));
         cut = next;
-        if let Some(stop) = stop_at(block.as_slice(), cut, lines, most_line, room) {
+        if let Some(stop) = stop_at(block.as_slice(), cut, lines, size, most_line, room) {
             return Ok((stop, cut));
         }
         let open = block.len() - cut;

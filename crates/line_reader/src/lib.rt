@@ -5,6 +5,7 @@
 
 mod awaiting;
 mod block;
+mod block_size;
 mod fault;
 mod filling;
 mod lookahead;
@@ -13,6 +14,7 @@ mod searching;
 mod stop;
 
 pub use block::Block;
+pub use block_size::BlockSize;
 pub use fault::LineFault;
 pub use lookahead::Lookahead;
 pub use reader::LineReader;

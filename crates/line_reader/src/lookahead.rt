@@ -7,7 +7,7 @@ ghost use Rattle.line_reader.specs.Filling.{FillCause, block_end};
 
 use crate::awaiting::await_line;
 use crate::filling::fill;
-use crate::{Block, LineFault, Stop};
+use crate::{Block, BlockSize, LineFault, Stop};
 use agg_ports::Source;
 use std::alloc::Global;
 use std::marker::Model;
@@ -114,12 +114,11 @@ impl Lookahead {
         Ok(())
     }
 
-    /// Fills a block with the whole lines that come next, as many as a block has or as there are, and tells what stands behind them. What
-    /// the block had is dropped; its memory is used again.
+    /// As [`Lookahead::read_block_of`], with a long block.
     ///
     /// # Errors
     ///
-    /// [`OutOfMemory`] where there is no room for the bytes; nothing more can be read then.
+    /// As of [`Lookahead::read_block_of`].
     pub fn read_block<S: Source>(
         &mut self,
         source: &mut S,
@@ -128,10 +127,28 @@ impl Lookahead {
         ensures block { IfOk result (ReadsBlock (S.left source.old) (S.left source.new) self.old self.new block.new) }
         ensures cause { IfOk result (FillCause (S.faults source.old) (S.faults source.new)) }
     {
+        self.read_block_of(source, block, BlockSize::long())
+    }
+
+    /// Fills a block with the whole lines that come next, until it has enough or there are no more, and tells what stands behind them. What
+    /// the block had is dropped; its memory is used again.
+    ///
+    /// # Errors
+    ///
+    /// [`OutOfMemory`] where there is no room for the bytes; nothing more can be read then.
+    pub fn read_block_of<S: Source>(
+        &mut self,
+        source: &mut S,
+        block: &mut Block,
+        size: BlockSize,
+    ) -> Result<Stop, OutOfMemory>
+        ensures block { IfOk result (ReadsBlock (S.left source.old) (S.left source.new) self.old self.new block.new) }
+        ensures cause { IfOk result (FillCause (S.faults source.old) (S.faults source.new)) }
+    {
         block.clear();
         block.append(self.held.as_slice())?;
         self.held.clear();
-        let (stop, cut) = fill(source, block, self.most_line, self.room)?;
+        let (stop, cut) = fill(source, block, size, self.most_line, self.room)?;
         let end = block_end(stop, cut, block.len());
         self.hand_out(block, end)?;
         Ok(stop)

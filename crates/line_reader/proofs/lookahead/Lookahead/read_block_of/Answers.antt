@@ -3,7 +3,7 @@ use Rattle.line_reader.specs.Ahead.{Ahead}
 use Rattle.line_reader.specs.Answers.{ReadsBlock}
 use Rattle.line_reader.specs.Filling.{block_end}
 use Rattle.line_reader.proofs.Handed.{ahead_of, reads-block}
-use Rattle.line_reader.proofs.lookahead.Lookahead.read_block.Goals as goal
+use Rattle.line_reader.proofs.lookahead.Lookahead.read_block_of.Goals as goal
 
 pub returns-clause-block : goal.returns-clause-block
 returns-clause-block g c =
