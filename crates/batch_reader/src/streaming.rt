@@ -17,7 +17,7 @@ use crate::schema_types::types_of;
 use agg_defs::Schema;
 use agg_ports::Source;
 use columns::Batch;
-use line_reader::{Block, Lookahead, Stop};
+use line_reader::{Block, BlockSize, Lookahead, Stop};
 use quick_rows::{Step, step_of};
 use std::alloc::Global;
 use std::marker::Model;
@@ -32,6 +32,7 @@ pub struct RowStream {
     keep: Vec<bool>,
     steps: Vec<Step>,
     next: u64,
+    size: BlockSize,
     block: Block,
 }
 
@@ -168,8 +169,16 @@ impl RowStream {
             keep,
             steps,
             next: 1,
+            size: BlockSize::short(),
             block: Block::new(alloc),
         })
+    }
+
+    /// Sets how many lines or bytes make a block from here on: few at first.
+    pub fn set_block_size(&mut self, size: BlockSize)
+        ensures { self.new ≡ self.old }
+    {
+        self.size = size;
     }
 
     /// No rows, of the kept columns.
@@ -209,7 +218,9 @@ impl RowStream {
         ensures cause { RowCause (S.faults source.old) (S.faults source.new) result }
     {
         batch.clear();
-        let stop = self.ahead.read_block(source, &mut self.block)?;
+        let stop = self
+            .ahead
+            .read_block_of(source, &mut self.block, self.size)?;
         let text = self.block.as_slice();
         match keep_behind(
             alloc,
