@@ -1,11 +1,10 @@
 -- The words of a column of numbers, by its type.
-use Rattle.std.proofs.Common.{◌≡◌, ℕ, ◌-◌, ℤ, pos, List, [], ◌∷◌, length, map, take, drop, refl, sym, ap, ap₂, ◌∙◌}
+use Rattle.std.proofs.Common.{◌≡◌, ℕ, ◌-◌, ℤ, pos, List, [], ◌∷◌, map, take, drop, refl, sym, ap, ap₂, ◌∙◌}
 use Rattle.std.specs.List.{slice_range}
 use Rattle.std.specs.Int.{cast_unsigned}
-use Rattle.std.proofs.lemmas.List.{take-map, drop-map, map-map}
+use Rattle.std.proofs.lemmas.List.{take-map, drop-map}
 use mir.Syntax.{Width, w8, w16, w32, w64}
 use Rattle.agg_terms.specs.Chains as terms
-use Rattle.agg_terms.specs.Values as family
 use Rattle.typed_columns.specs.TypedValues.{TypedValues}
 use Rattle.value_types.specs.declared.ty.Ty.{Ty}
 use Rattle.value_types.specs.declared.ty.Ty.TheVariants as ty
@@ -16,14 +15,15 @@ use Rattle.key_methods.specs.KeyBytes.{word_of}
 use Rattle.key_columns.specs.Words.{words_in}
 
 module _ (c : TypedValues) (from to : ℕ) where
+  range : {X Y : Type 0} (f : X → Y) (xs : List X) → slice_range (map f xs) from to ≡ map f (slice_range xs from to)
+  range f xs = ap (take (to - from)) (drop-map f from xs) ∙ take-map f (to - from) (drop from xs)
+
   whole : (t : Ty) (n : ℕ) → c.ty ≡ t → ty_of t ≡ terms.Whole n → (all : List ℕ) → c.values ≡ map (λ m. Num (pos m)) all → map (λ m. m) (slice_range all from to) ≡ words_in c from to
   whole t n e is all values =
       words (slice_range all from to)
       ∙ ap (map (λ v. word_of (ty_of t) (value_of v))) (sym (range (λ m. Num (pos m)) all))
       ∙ ap₂ (λ u vs. map (λ v. word_of (ty_of u) (value_of v)) (slice_range vs from to)) (sym e) (sym values)
     where
-      range : (f : ℕ → _) (xs : List ℕ) → slice_range (map f xs) from to ≡ map f (slice_range xs from to)
-      range f xs = ap (take (to - from)) (drop-map f from xs) ∙ take-map f (to - from) (drop from xs)
       words : (xs : List ℕ) → map (λ m. m) xs ≡ map (λ v. word_of (ty_of t) (value_of v)) (map (λ m. Num (pos m)) xs)
       words [] = refl
       words (x ∷ xs) = ap₂ ◌∷◌ (sym (ap₂ word_of is (value_of-Num (pos x)))) (words xs)
@@ -34,8 +34,6 @@ module _ (c : TypedValues) (from to : ℕ) where
       ∙ ap (map (λ v. word_of (ty_of t) (value_of v))) (sym (range Num all))
       ∙ ap₂ (λ u vs. map (λ v. word_of (ty_of u) (value_of v)) (slice_range vs from to)) (sym e) (sym values)
     where
-      range : (f : ℤ → _) (xs : List ℤ) → slice_range (map f xs) from to ≡ map f (slice_range xs from to)
-      range f xs = ap (take (to - from)) (drop-map f from xs) ∙ take-map f (to - from) (drop from xs)
       words : (xs : List ℤ) → map (cast_unsigned w) xs ≡ map (λ v. word_of (ty_of t) (value_of v)) (map Num xs)
       words [] = refl
       words (x ∷ xs) = ap₂ ◌∷◌ (sym (ap₂ word_of is (value_of-Num x))) (words xs)

@@ -104,7 +104,7 @@ fn words_of<N: Spelled>(alloc: Global, numbers: &[N]) -> Result<Vec<u64>, OutOfM
 ///
 /// [`OutOfMemory`] where there is no room for them.
 #[tactic(auto, using(crate::proofs::Columns::column_laws))]
-pub fn column_words(
+pub(crate) fn column_words(
     alloc: Global,
     ty: &Ty,
     column: &Column,
