@@ -1,17 +1,18 @@
 //! A column of states.
 ghost use Rattle.std.specs.Prelude.{◌≡◌, ◌<◌, ◌≤◌, ◌-◌, ◌++◌, ◌∷◌, [], All, get_or, length, map, replicate, IfOk, OnOk};
+ghost use Rattle.agg_meaning.specs.States.{MeansChain};
 ghost use Rattle.agg_terms.specs.Lists.{Each};
 ghost use Rattle.agg_terms.specs.Trees.{IsTree};
 ghost use Rattle.agg_terms.specs.Values.{Empty};
 ghost use Rattle.chain_states.specs.Calls.{IsStateOf, argument_rows, chain_in, tree_in, types_in};
 ghost use Rattle.chain_states.specs.declared.ready.ReadyCall.{ReadyCall as Ready};
 ghost use Rattle.state_columns.specs.Trees.{IsColumnOf, JoinAt, TakeAt, blank_in, trees_in};
-ghost use Rattle.value_types.specs.Folds.{tree_of};
+ghost use Rattle.value_types.specs.Folds.{tree_of, value_of};
 
 use chain_states::{ReadyCall, State, add_fresh, feed_places};
 use std::alloc::Global;
 use typed_columns::Column;
-use value_types::{OutOfMemory, Tree};
+use value_types::{OutOfMemory, Tree, Value};
 
 /// The states of one call, a state for each group of a table.
 #[derive(Drop)]
@@ -42,7 +43,12 @@ impl StateColumn {
     /// # Errors
     ///
     /// [`OutOfMemory`] where there is no room; the states are then of unknown content.
-    pub fn widen(&mut self, alloc: Global, call: &ReadyCall, count: usize) -> Result<(), OutOfMemory>
+    pub fn widen(
+        &mut self,
+        alloc: Global,
+        call: &ReadyCall,
+        count: usize,
+    ) -> Result<(), OutOfMemory>
         requires { IsColumnOf call.now self.old }
         ensures shape { OnOk result (IsColumnOf call.now self.new) }
         ensures trees { OnOk result (trees_in self.new ≡ trees_in self.old ++ replicate count (blank_in call.now)) }
@@ -144,6 +150,19 @@ impl StateColumn {
         self.states[place].tree(alloc)
     }
 
+    /// The value of the state at a place: what its rows mean to the call.
+    ///
+    /// # Errors
+    ///
+    /// [`OutOfMemory`] where there is no room for it.
+    pub fn value(&self, alloc: Global, call: &ReadyCall, place: usize) -> Result<Value, OutOfMemory>
+        requires shape { IsColumnOf call.now self.now }
+        requires place { place < length (trees_in self.now) }
+        ensures { IfOk result (λ value. MeansChain (chain_in call.now) (types_in call.now) (get_or (trees_in self.now) place Empty) (value_of value)) }
+    {
+        self.states[place].finish(alloc, call)
+    }
+
     /// A column of equal states.
     ///
     /// # Errors
@@ -154,10 +173,7 @@ impl StateColumn {
         ensures shape { IfOk result (λ column. IsColumnOf call.now column) }
         ensures trees { IfOk result (λ column. trees_in column ≡ trees_in self.now) }
     {
-        let mut states = Vec::with_capacity(alloc, self.states.len())?;
-        for i in 0..self.states.len() {
-            states.push(self.states[i].copy(alloc, call)?)?;
-        }
+        let states = copy_states(alloc, call, &self.states)?;
         Ok(StateColumn { states })
     }
 }
@@ -181,4 +197,17 @@ fn merge_states(
         states[places[i] as usize].merge(alloc, call, &later[i])?;
     }
     Ok(())
+}
+
+/// States of the same rows.
+fn copy_states(alloc: Global, call: &ReadyCall, states: &[State]) -> Result<Vec<State>, OutOfMemory>
+    requires { Each (IsStateOf call.now) states.now }
+    ensures shape { IfOk result (λ copied. Each (IsStateOf call.now) copied.items) }
+    ensures trees { IfOk result (λ copied. map tree_in copied.items ≡ map tree_in states.now) }
+{
+    let mut copied = Vec::with_capacity(alloc, states.len())?;
+    for i in 0..states.len() {
+        copied.push(states[i].copy(alloc, call)?)?;
+    }
+    Ok(copied)
 }

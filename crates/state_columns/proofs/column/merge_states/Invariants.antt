@@ -8,4 +8,5 @@ abbrev pub invariant-loop-i : goal.invariant-loop-i
 invariant-loop-i l =
     record {
       shape : Each (IsStateOf l.call) l.states.items;
-      joined : JoinAt l.call (take l.i l.places) (take l.i (map tree_in l.later)) (map tree_in l.initial.states.items) (map tree_in l.states.items) }
+      joined : JoinAt l.call (take l.i l.places) (take l.i (map tree_in l.later)) (map tree_in l.initial.states.items) (map tree_in l.states.items);
+    }
