@@ -21,6 +21,6 @@ pub use key::Key;
 pub use kind::KeyKind;
 pub use laws::law_keys;
 pub use number::{number_width, number_word};
-pub use packing::pack;
+pub use packing::{Joined, behind, pack};
 pub use unpacking::unpack;
 pub use writing::{write_number, write_text};

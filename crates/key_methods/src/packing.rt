@@ -88,13 +88,14 @@ fn wide_key(types: &[Ty], values: &[Value]) -> Key
 
 /// Numbers side by side: the number that their bytes spell, and how many these are.
 #[derive(Clone, Copy)]
-struct Joined {
-    word: u128,
-    width: u8,
+pub struct Joined {
+    pub word: u128,
+    pub width: u8,
 }
 
-/// A number of `width` bytes behind others.
-fn behind(before: Joined, word: u64, width: usize) -> Joined
+/// A number of `width` bytes behind others, all of at most 16 bytes.
+#[inline]
+pub fn behind(before: Joined, word: u64, width: usize) -> Joined
     requires room { before.width + width ≤ 16 }
     requires most { width ≤ 8 }
     requires before { before.word < 256 ^ before.width }

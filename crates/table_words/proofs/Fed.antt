@@ -33,14 +33,14 @@ pub tuples : IsEquivalence same_tuple
 tuples = eq_by_cmp_equiv order
 
 -- ---- feeds of a group
-feeds-append : (v : View) (g : List Value) (i : ℕ) (A B : List (Contribution v)) → feeds_of v g i (A ++ B) ≡ feeds_of v g i A ++ feeds_of v g i B
+pub feeds-append : (v : View) (g : List Value) (i : ℕ) (A B : List (Contribution v)) → feeds_of v g i (A ++ B) ≡ feeds_of v g i A ++ feeds_of v g i B
 feeds-append v g i A B = flat_map-append (λ c. cond (is_eq (compare_rows g c.0)) (c.1 i) []) A B
 
-abbrev keys_of : (v : View) → List (Contribution v) → List (List Value)
+abbrev pub keys_of : (v : View) → List (Contribution v) → List (List Value)
 keys_of v C = map (λ c. c.0) C
 
 -- a key that no contribution has brings nothing
-feeds-absent : (v : View) (i : ℕ) (g : List Value) (ks : List (List Value)) (C : List (Contribution v))
+pub feeds-absent : (v : View) (i : ℕ) (g : List Value) (ks : List (List Value)) (C : List (Contribution v))
     → list_any (same_tuple g) (keys_with same_tuple ks (keys_of v C)) ≡ false → feeds_of v g i C ≡ []
 feeds-absent v i g ks [] h = refl
 feeds-absent v i g ks (c ∷ C) h =
@@ -85,7 +85,7 @@ feeds-here v (c ∷ C) g i h all =
     (cond_both (is_eq (compare_rows g c.0)) (c.1 i) [] (λ l. AreFeeds (call_at v.calls i).chain (call_at v.calls i).types l) (λ _. all.0 i h) (λ _. tt))
     (feeds-here v C g i h all.1)
 
-legal-at : (calls : List Call) (i : ℕ) → i < length calls → Each (λ c. IsLegal c.chain c.types) calls → IsLegal (call_at calls i).chain (call_at calls i).types
+pub legal-at : (calls : List Call) (i : ℕ) → i < length calls → Each (λ c. IsLegal c.chain c.types) calls → IsLegal (call_at calls i).chain (call_at calls i).types
 legal-at [] i h all = absurd (omega (arith, h))
 legal-at (c ∷ calls) zero h all = all.0
 legal-at (c ∷ calls) (suc i) h all = legal-at calls i (omega (arith, h)) all.1
@@ -95,7 +95,7 @@ distinct-first : (v : View) → IsDistinct same_tuple (first_groups v)
 unfolding IsDistinct
 distinct-first v = cond_both (is_empty v.keys) ([] ∷ []) [] (IsDistinct same_tuple) (λ _. IsDistinct-insert_key same_tuple tuples [] [] tt) (λ _. tt)
 
-distinct-keys : (v : View) (C : List (Contribution v)) → IsDistinct same_tuple (keys_in v C)
+pub distinct-keys : (v : View) (C : List (Contribution v)) → IsDistinct same_tuple (keys_in v C)
 distinct-keys v C = IsDistinct-keys_with same_tuple tuples (first_groups v) (keys_of v C) (distinct-first v)
 
 -- a key that wasn't there is none of those that were
@@ -115,43 +115,41 @@ past-end [] i d h = refl
 past-end (x ∷ xs) zero d h = absurd (omega (arith, h))
 past-end (x ∷ xs) (suc i) d h = past-end xs i d (omega (arith, h))
 
+-- ---- what a tree stood for before other keys came
+module _ (v : View) (C : List (Contribution v)) (ks more : List (List Value)) (old : ℕ → List Tree) (table : IsTable v C ks old) where
+  pub distinct : IsDistinct same_tuple ks
+  distinct = subst (IsDistinct same_tuple) (sym table.keys) (distinct-keys v C)
+
+  pub stood : (i : ℕ) → i < length v.calls → (g : ℕ) → g < length (keys_with same_tuple ks more)
+      → StandsFor (call_at v.calls i).chain (call_at v.calls i).types (feeds_of v (get_or (keys_with same_tuple ks more) g []) i C) (tree_at v i (old i) g)
+  stood i hi g h = by (cases_lt g (length ks))
+    where
+      k : List Value
+      k = get_or (keys_with same_tuple ks more) g []
+
+      by : (g < length ks) ⊎ (length ks ≤ g)
+          → tree_at v i (old i) g ≡ normal (call_at v.calls i).chain (call_at v.calls i).types (feeds_of v (get_or (keys_with same_tuple ks more) g []) i C)
+      by (inl there) =
+          get_or_default (old i) g (blank (call_at v.calls i).chain) Empty (subst (λ n. g < n) (sym (table.long i hi)) there)
+          ∙ table.trees i hi g there
+          ∙ ap (λ key. normal (call_at v.calls i).chain (call_at v.calls i).types (feeds_of v key i C)) (sym (get_or-keys_with same_tuple ks more g [] there))
+      by (inr later) =
+          past-end (old i) g (blank (call_at v.calls i).chain) (subst (λ n. n ≤ g) (sym (table.long i hi)) later)
+          ∙ sym (of_none (call_at v.calls i).chain (call_at v.calls i).types)
+          ∙ ap (normal (call_at v.calls i).chain (call_at v.calls i).types)
+          (sym (feeds-absent v i (get_or (keys_with same_tuple ks more) g []) (first_groups v) C
+          (ap (list_any (same_tuple (get_or (keys_with same_tuple ks more) g []))) (sym table.keys)
+          ∙ new-key ks more g (IsDistinct-keys_with same_tuple tuples ks more distinct) later h)))
+
 -- ---- the table
 module _ (v : View) (C : List (Contribution v)) (ks rows : List (List Value)) (old new : ℕ → List Tree)
     (legal : IsLegalView v) (brought : AreContributions v (map (of_row v) rows)) (table : IsTable v C ks old) where
-  all : List (List Value)
-  all = keys_with same_tuple ks (row_keys v rows)
-
-  distinct : IsDistinct same_tuple ks
-  distinct = subst (IsDistinct same_tuple) (sym table.keys) (distinct-keys v C)
-
   keys-all : keys_with same_tuple ks (row_keys v rows) ≡ keys_in v (C ++ map (of_row v) rows)
   keys-all =
       ap (λ l. keys_with same_tuple l (row_keys v rows)) table.keys
       ∙ sym (keys_with-append same_tuple (first_groups v) (keys_of v C) (row_keys v rows))
       ∙ ap (λ l. keys_with same_tuple (first_groups v) (keys_of v C ++ l)) (sym (keys-rows v rows))
       ∙ ap (keys_with same_tuple (first_groups v)) (sym (map-append (λ c. c.0) C (map (of_row v) rows)))
-
-  -- what a tree stood for before the rows
-  stood : (i : ℕ) → i < length v.calls → (g : ℕ) → g < length (keys_with same_tuple ks (row_keys v rows))
-      → StandsFor (call_at v.calls i).chain (call_at v.calls i).types (feeds_of v (get_or (keys_with same_tuple ks (row_keys v rows)) g []) i C) (tree_at v i (old i) g)
-  stood i hi g h = by (cases_lt g (length ks))
-    where
-      k : List Value
-      k = get_or (keys_with same_tuple ks (row_keys v rows)) g []
-
-      by : (g < length ks) ⊎ (length ks ≤ g)
-          → tree_at v i (old i) g ≡ normal (call_at v.calls i).chain (call_at v.calls i).types (feeds_of v (get_or (keys_with same_tuple ks (row_keys v rows)) g []) i C)
-      by (inl there) =
-          get_or_default (old i) g (blank (call_at v.calls i).chain) Empty (subst (λ n. g < n) (sym (table.long i hi)) there)
-          ∙ table.trees i hi g there
-          ∙ ap (λ key. normal (call_at v.calls i).chain (call_at v.calls i).types (feeds_of v key i C)) (sym (get_or-keys_with same_tuple ks (row_keys v rows) g [] there))
-      by (inr later) =
-          past-end (old i) g (blank (call_at v.calls i).chain) (subst (λ n. n ≤ g) (sym (table.long i hi)) later)
-          ∙ sym (of_none (call_at v.calls i).chain (call_at v.calls i).types)
-          ∙ ap (normal (call_at v.calls i).chain (call_at v.calls i).types)
-          (sym (feeds-absent v i (get_or (keys_with same_tuple ks (row_keys v rows)) g []) (first_groups v) C
-          (ap (list_any (same_tuple (get_or (keys_with same_tuple ks (row_keys v rows)) g []))) (sym table.keys)
-          ∙ new-key ks (row_keys v rows) g (IsDistinct-keys_with same_tuple tuples ks (row_keys v rows) distinct) later h)))
 
   fed : TakesRows v rows (places_of same_tuple ks (row_keys v rows)) (length (keys_with same_tuple ks (row_keys v rows))) old new
       → IsTable v (C ++ map (of_row v) rows) (keys_with same_tuple ks (row_keys v rows)) new
@@ -162,9 +160,9 @@ module _ (v : View) (C : List (Contribution v)) (ks rows : List (List Value)) (o
         let k = get_or (keys_with same_tuple ks (row_keys v rows)) g [] in
         let c = (call_at v.calls i).chain in
         let ts = (call_at v.calls i).types in
-        let reached = feeds-reaching v i ks rows g distinct h in
+        let reached = feeds-reaching v i ks rows g (distinct v C ks (row_keys v rows) old table) h in
         let feeds = subst (λ fs. AreFeeds c ts fs) (sym reached) (feeds-here v (map (of_row v) rows) k i hi brought) in
-        takes.trees i hi g h (feeds_of v k i C) (legal-at v.calls i hi legal) feeds (stood i hi g h)
+        takes.trees i hi g h (feeds_of v k i C) (legal-at v.calls i hi legal) feeds (stood v C ks (row_keys v rows) old table i hi g h)
         ∙ ap (λ fs. normal c ts (feeds_of v k i C ++ fs)) reached
         ∙ ap (normal c ts) (sym (feeds-append v k i C (map (of_row v) rows)));
   }

@@ -1,2 +1,3 @@
 pub mod KeysWith
 pub mod Fed
+pub mod Merged

@@ -1,0 +1,4 @@
+pub mod KeyLists
+pub mod Codes
+pub mod Placing
+pub mod Rows
