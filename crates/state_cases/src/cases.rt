@@ -2,6 +2,7 @@
 ghost use Rattle.state_codec.specs.Codec.{IsLegalState};
 ghost use Rattle.value_types.specs.Folds.{ty_of};
 
+use crate::changes::{Changes, all_changes};
 use crate::fault::RunFault;
 use scalar_texts::{StateFault, StateReadFault, StateReader, StateWriter};
 use state_codec::Codec;
@@ -9,19 +10,28 @@ use std::alloc::Global;
 use value_types::{Bytes, Ty};
 
 /// What comes of the bytes of a case.
+#[derive(Clone, Copy)]
 pub(crate) enum Outcome {
     /// They are no state.
     Refused(StateFault),
     /// They are a state, which was written again.
-    Read {
-        is_written_back: bool,
-        cut_short: usize,
-        longer: Option<StateFault>,
-    },
+    Read(Again),
+}
+
+/// What comes of bytes like those of a state.
+#[derive(Clone, Copy)]
+pub(crate) struct Again {
+    /// Whether the state is written as the same bytes.
+    pub(crate) is_written_back: bool,
+    /// At how many places they can be cut so that they end too early.
+    pub(crate) cut_short: usize,
+    /// The fault of the bytes with 00 behind them.
+    pub(crate) longer: Option<StateFault>,
+    pub(crate) changes: Changes,
 }
 
 /// The bytes of the state that the bytes stand for.
-fn written_back(alloc: Global, ty: &Ty, bytes: &[u8]) -> Result<Bytes, StateReadFault>
+pub(crate) fn written_back(alloc: Global, ty: &Ty, bytes: &[u8]) -> Result<Bytes, StateReadFault>
     requires { IsLegalState (ty_of ty.now) }
 {
     let tree = Codec.read(alloc, ty, bytes)?;
@@ -64,16 +74,32 @@ fn longer(alloc: Global, ty: &Ty, bytes: &[u8]) -> Result<Option<StateFault>, Ru
     fault_of(alloc, ty, more.as_slice())
 }
 
+/// What comes of bytes like those of a state.
+fn tried_again(
+    alloc: Global,
+    ty: &Ty,
+    bytes: &[u8],
+    is_written_back: bool,
+) -> Result<Again, RunFault>
+    requires { IsLegalState (ty_of ty.now) }
+{
+    Ok(Again {
+        is_written_back,
+        cut_short: cut_short(alloc, ty, bytes)?,
+        longer: longer(alloc, ty, bytes)?,
+        changes: all_changes(alloc, ty, bytes)?,
+    })
+}
+
 /// What comes of bytes in a state type.
 pub(crate) fn judge(alloc: Global, ty: &Ty, bytes: &[u8]) -> Result<Outcome, RunFault>
     requires { IsLegalState (ty_of ty.now) }
 {
     match written_back(alloc, ty, bytes) {
-        Ok(written) => Ok(Outcome::Read {
-            is_written_back: written.as_slice() == bytes,
-            cut_short: cut_short(alloc, ty, bytes)?,
-            longer: longer(alloc, ty, bytes)?,
-        }),
+        Ok(written) => {
+            let is_written_back = written.as_slice() == bytes;
+            Ok(Outcome::Read(tried_again(alloc, ty, bytes, is_written_back)?))
+        }
         Err(StateReadFault::Bad(fault)) => Ok(Outcome::Refused(fault)),
         Err(StateReadFault::OutOfMemory) => Err(RunFault::OutOfMemory),
     }

@@ -1,29 +1,30 @@
-//! States as bytes, a line each: the type of the state, a tab, and the bytes in hexadecimal.
+//! States as bytes, a line each: the type of the state, the bytes in hexadecimal, and what is wanted of them, with tabs between. Wanted
+//! is `state`, a fault with its place, or `no case` where the type is not legal or the digits are none.
 //!
 //! Of bytes that are a state it is printed whether they are written the same again, at how many places they can be cut so that they
-//! end too early, and what is wrong with one byte 00 more; of other bytes their first fault.
+//! end too early, what is wrong with one byte 00 more, and how many changes of one byte are read or refused; of other bytes their
+//! first fault. A line that isn't what its case wants says so.
 #![tactic(auto)]
 
 mod cases;
+mod changes;
 mod fault;
 mod types;
+mod words;
 
-use cases::{Outcome, judge};
+use cases::{Again, Outcome, judge};
 use fault::RunFault;
 use hex::FromHexError;
-use scalar_texts::StateFault;
 use std::alloc::Global;
 use std::io;
 use types::named_type;
+use words::{fault_words, outcome_words};
 
-/// The longest line that is read.
+/// The longest name of a type that is read.
 const MOST_BYTES: usize = 1 << 20;
 
 /// What comes of a case; none where its line has no type of a state and no bytes.
-fn judged(alloc: Global, line: &str) -> Result<Option<Outcome>, RunFault> {
-    let Some((name, digits)) = line.split_once('\t') else {
-        return Ok(None);
-    };
+fn judged(alloc: Global, name: &str, digits: &str) -> Result<Option<Outcome>, RunFault> {
     if name.len() > MOST_BYTES {
         return Ok(None);
     }
@@ -38,45 +39,47 @@ fn judged(alloc: Global, line: &str) -> Result<Option<Outcome>, RunFault> {
     }
 }
 
-fn print_fault<R: Print>(rt: &R, fault: StateFault) -> io::Result<()> {
-    match fault {
-        StateFault::Short => println!(rt; "short"),
-        StateFault::Version(byte) => println!(rt; "version {byte}"),
-        StateFault::BadTag(at) => println!(rt; "tag at {at}"),
-        StateFault::NotCanonical(at) => println!(rt; "not canonical at {at}"),
-        StateFault::Long(at) => println!(rt; "long at {at}"),
+fn print_again<R: Print>(rt: &R, alloc: Global, again: &Again) -> Result<(), RunFault> {
+    let same = if again.is_written_back {
+        "the same"
+    } else {
+        "other bytes"
+    };
+    let (cut, read, refused) = (again.cut_short, again.changes.read, again.changes.refused);
+    print!(rt; ": {same}, {cut} fronts short, ")?;
+    match again.longer {
+        Some(fault) => print!(rt; "{}", fault_words(alloc, fault)?)?,
+        None => print!(rt; "and longer")?,
     }
+    print!(rt; ", {read} changes read, {refused} refused")?;
+    if again.changes.wrong > 0 {
+        print!(rt; ", {} WRONG", again.changes.wrong)?;
+    }
+    Ok(())
 }
 
-fn print_outcome<R: Print>(rt: &R, outcome: Outcome) -> io::Result<()> {
-    match outcome {
-        Outcome::Refused(fault) => print_fault(rt, fault),
-        Outcome::Read {
-            is_written_back,
-            cut_short,
-            longer,
-        } => {
-            let again = if is_written_back {
-                "the same"
-            } else {
-                "other bytes"
-            };
-            print!(rt; "{again}, {cut_short} fronts short, ")?;
-            match longer {
-                Some(fault) => print_fault(rt, fault),
-                None => println!(rt; "and longer"),
-            }
-        }
+/// Prints what comes of a case, and whether that is wanted.
+fn print_case<R: Print>(rt: &R, alloc: Global, line: &str) -> Result<(), RunFault> {
+    let (name, rest) = line.split_once('\t').unwrap_or((line, ""));
+    let (digits, wanted) = rest.split_once('\t').unwrap_or((rest, ""));
+    let outcome = judged(alloc, name, digits)?;
+    let words = outcome_words(alloc, &outcome)?;
+    if words.as_str() != wanted {
+        print!(rt; "UNLIKE ITS CASE: ")?;
     }
+    print!(rt; "{words}")?;
+    match outcome {
+        Some(Outcome::Read(again)) => print_again(rt, alloc, &again)?,
+        _ => {}
+    }
+    println!(rt; "")?;
+    Ok(())
 }
 
 fn main(rt: HostRuntime) -> Result<(), RunFault> {
     for line in rt.lines(rt.alloc()) {
         let line = line?;
-        match judged(rt.alloc(), line.as_str())? {
-            Some(outcome) => print_outcome(&rt, outcome)?,
-            None => println!(rt; "no case")?,
-        }
+        print_case(&rt, rt.alloc(), line.as_str())?;
     }
     Ok(())
 }

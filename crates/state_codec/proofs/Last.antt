@@ -1,4 +1,4 @@
--- Items in view of those before them, of which the last counts or all.
+-- Items in view of those before them, of which the last counts.
 use Rattle.std.proofs.Common.{◌≡◌, Bool, true, false, not, ◌&&◌, cond, List, [], ◌∷◌, ◌++◌, map, Ordering, refl, ap, ◌∙◌}
 use Rattle.std.specs.List.{list_all}
 use Rattle.std.specs.Ordering.{is_eq, is_le, is_lt}
@@ -31,31 +31,3 @@ pub entry_key : (e : KeyedTree) → (entry_of e).0 ≡ value_of e.key
 entry_key e = ap (λ p. p.0) (fold-roll-KeyedTree family.Tree family.Value (family.Value × family.Tree) tree_step value_step entry_step (record { key = e.key; tree = e.tree }))
 
 pub ruleset last_laws = (last_rises, last_holds, last_key)
-
--- ---- all of them
-
-module _ {Y : Type 0} (p : Y → Bool) where
-  some_last : (xs : List Y) (y : Y) → some p (xs ++ y ∷ []) ≡ cond (p y) true (some p xs)
-  some_last [] y = refl
-  some_last (x ∷ xs) y = ap (λ b. cond (p x) true b) (some_last xs y) ∙ turn (p x) (p y) (some p xs)
-    where
-      turn : (a b c : Bool) → cond a true (cond b true c) ≡ cond b true (cond a true c)
-      turn true true c = refl
-      turn true false c = refl
-      turn false true c = refl
-      turn false false c = refl
-
-  some_behind : (xs : List Y) → some p (behind xs) ≡ some p xs
-  some_behind [] = refl
-  some_behind (x ∷ xs) = some_last (behind xs) x ∙ ap (λ b. cond (p x) true b) (some_behind xs)
-
-none_is : {X Y : Type 0} (p : Y → Bool) (f : X → Y) (xs : List X) → not (some p (map f xs)) ≡ list_all (λ x. not (p (f x))) xs
-none_is p f [] = refl
-none_is p f (x ∷ xs) = go (p (f x)) (none_is p f xs)
-  where
-    go : (b : Bool) → not (some p (map f xs)) ≡ list_all (λ x. not (p (f x))) xs → not (cond b true (some p (map f xs))) ≡ not b && list_all (λ x. not (p (f x))) xs
-    go true h = refl
-    go false h = h
-
-pub new_is : {X Y : Type 0} (f : X → Y) (cmp : Y → Y → Ordering) (earlier : List X) (y : Y) → is_new cmp (behind (map f earlier)) y ≡ list_all (λ x. not (is_eq (cmp (f x) y))) earlier
-new_is f cmp earlier y = ap not (some_behind (λ x. is_eq (cmp x y)) (map f earlier)) ∙ none_is (λ x. is_eq (cmp x y)) f earlier

@@ -14,6 +14,7 @@ pub mod ReadKinds
 pub mod ReadLinks
 pub mod EventBits
 pub mod Last
+pub mod Fresh
 pub mod RowSteps
 pub mod Decoded
 pub mod Fields

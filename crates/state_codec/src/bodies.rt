@@ -9,8 +9,8 @@ ghost use Rattle.state_codec.specs.Gives.{Gives};
 ghost use Rattle.state_codec.specs.proving.Views.{behind, keys_of};
 
 use crate::DecodeFault;
+use crate::distinct::distinct_at;
 use crate::leaves::{leaf_at, least_leaf_bytes};
-use crate::rows::distinct_at;
 use crate::source::{Source, place_of, u64_at};
 use crate::values::{least_bytes, room, value_at, with_room};
 use agg_values::{Peels, compare, first_type, front, intervals, state_args};
@@ -18,7 +18,17 @@ use scalar_texts::StateFault;
 use std::alloc::Global;
 use value_types::{Chain, KeyedTree, Seq, Tree, Ty, Value, map_key};
 
-/// The fewest bytes that the state of a chain has, where each Resample has an interval.
+/// The fewest bytes of so many states, each of which has so many bytes or more.
+fn least_of(count: u128, least: usize) -> usize {
+    let most = usize::MAX;
+    if count < most as u128 {
+        least.saturating_mul(count as usize)
+    } else {
+        most
+    }
+}
+
+/// The fewest bytes that the state of a chain has.
 fn least_body_bytes(chain: &Chain) -> usize {
     match chain {
         Chain::Leaf(leaf) => least_leaf_bytes(leaf),
@@ -29,7 +39,9 @@ fn least_body_bytes(chain: &Chain) -> usize {
         Chain::OrDefault(of) => least_body_bytes(of.get()),
         Chain::State(of) => least_body_bytes(of.get()),
         Chain::Merge(of) => least_body_bytes(of.get()),
-        Chain::Resample(_, _, _, of) => least_body_bytes(of.get()),
+        Chain::Resample(start, end, step, of) => {
+            least_of(intervals(*start, *end, *step), least_body_bytes(of.get()))
+        }
     }
 }
 

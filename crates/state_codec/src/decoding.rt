@@ -53,7 +53,8 @@ pub(crate) fn read_text(
 /// The state tree of the chain whose text the bytes are, in any version.
 ///
 /// A hostile length takes no memory before its bytes are there: the memory that is taken grows with the number of bytes alone.
-/// The tuples of a Distinct are compared with one another, so the time grows with the square of their number.
+/// A hash of its values tells whether a tuple of a Distinct was read before, so the time grows with the number of bytes too, unless
+/// many hashes are the same.
 ///
 /// # Errors
 ///

@@ -7,6 +7,7 @@
 // reading
 mod bodies;
 mod decode_fault;
+mod distinct;
 mod events;
 mod leaves;
 mod rows;

@@ -1,12 +1,10 @@
 //! Tuples at the front of the bytes, in view of those that were read before.
-ghost use Rattle.std.specs.Prelude.{◌≡◌, map, not, []};
-ghost use Rattle.std.specs.List.{list_all};
-ghost use Rattle.std.specs.Ordering.{is_eq};
+ghost use Rattle.std.specs.Prelude.{◌≡◌, map, []};
 ghost use Rattle.agg_terms.specs.Order as order;
 ghost use Rattle.agg_terms.specs.Values.{rows_tree};
 ghost use Rattle.agg_values.specs.Peels.{peeled_types};
 ghost use Rattle.value_types.specs.Folds.{tree_of, value_of};
-ghost use Rattle.state_codec.specs.Reading.{any_length, is_new, items_at, kept_at, list_at, made, rises, row_at};
+ghost use Rattle.state_codec.specs.Reading.{any_length, items_at, kept_at, list_at, made, rises, row_at};
 ghost use Rattle.state_codec.specs.Gives.{Gives};
 ghost use Rattle.state_codec.specs.proving.Views.{behind, with_front};
 
@@ -67,25 +65,6 @@ fn is_above(earlier: &[Seq<Value>], row: &[Value]) -> bool
     }
 }
 
-/// Whether the tuple differs from each of these: it is compared with all of them.
-fn differs_from_all(earlier: &[Seq<Value>], row: &[Value]) -> bool
-    ensures { result ≡ list_all (λ y. not (is_eq (order.compare_rows (map value_of y) (map value_of row.now)))) earlier.now }
-{
-    for i in 0..earlier.len() {
-        if compare_rows(earlier[i].as_slice(), row).is_eq() {
-            return false;
-        }
-    }
-    true
-}
-
-/// Whether the tuple is none of those before it.
-fn is_other(earlier: &[Seq<Value>], row: &[Value]) -> bool
-    ensures { result ≡ is_new order.compare_rows (behind (map (map value_of) earlier.now)) (map value_of row.now) }
-{
-    differs_from_all(earlier, row)
-}
-
 /// A tuple that is above the last of those before it.
 #[tactic(auto, unfolding(crate::specs::Reading::kept_at))]
 fn higher_at<'b>(
@@ -106,28 +85,8 @@ fn higher_at<'b>(
     Ok((row, rest))
 }
 
-/// A tuple that is none of those before it.
-#[tactic(auto, unfolding(crate::specs::Reading::kept_at))]
-fn other_at<'b>(
-    types: &[Ty],
-    peels: &Peels<'_>,
-    alloc: Global,
-    earlier: &Seq<Seq<Value>>,
-    whole: usize,
-    bytes: &'b [u8],
-) -> Result<(Seq<Value>, &'b [u8]), DecodeFault>
-    ensures { Gives (λ x. (map value_of x.0, x.1.now)) result
-        (kept_at whole (is_new order.compare_rows (behind (map (map value_of) earlier.now))) (row_at whole (peeled_types peels.now types.now)) bytes.now) }
-{
-    let (row, rest) = tuple_at(types, peels, alloc, whole, bytes)?;
-    if !is_other(earlier.as_slice(), row.as_slice()) {
-        return Err(DecodeFault::Bad(StateFault::NotCanonical(place_of(whole, bytes))));
-    }
-    Ok((row, rest))
-}
-
 /// The fewest bytes that a tuple has.
-fn least_row_bytes(types: &[Ty], peels: &Peels<'_>) -> usize {
+pub(crate) fn least_row_bytes(types: &[Ty], peels: &Peels<'_>) -> usize {
     let mut least = 0usize;
     for ty in types {
         least = least.saturating_add(least_bytes(bare(peel(peels, ty))));
@@ -160,31 +119,6 @@ fn rising_at<'b>(
     Ok((rows, rest))
 }
 
-/// So many tuples, none of which stands twice.
-fn apart_at<'b>(
-    types: &[Ty],
-    peels: &Peels<'_>,
-    alloc: Global,
-    whole: usize,
-    count: u64,
-    bytes: &'b [u8],
-) -> Result<(Seq<Seq<Value>>, &'b [u8]), DecodeFault>
-    ensures { Gives (λ x. (map (map value_of) x.0, x.1.now)) result
-        (items_at (λ earlier. kept_at whole (is_new order.compare_rows earlier) (row_at whole (peeled_types peels.now types.now))) count [] bytes.now) }
-{
-    let mut rows = with_room(
-        alloc,
-        room(u128::from(count), bytes, least_row_bytes(types, peels)),
-    );
-    let mut rest = bytes;
-    for _ in 0..count {
-        let (row, after) = other_at(types, peels, alloc, &rows, whole, rest)?;
-        rows.push(row)?;
-        rest = after;
-    }
-    Ok((rows, rest))
-}
-
 /// The state of uniqExact.
 #[tactic(auto, unfolding(crate::specs::Reading::list_at, crate::specs::Reading::kept_at))]
 pub(crate) fn set_at<'b>(
@@ -199,22 +133,5 @@ pub(crate) fn set_at<'b>(
 {
     let (count, rest) = u64_at(bytes)?;
     let (rows, rest) = rising_at(types, peels, alloc, whole, count, rest)?;
-    Ok((Tree::Rows(rows), rest))
-}
-
-/// The state under Distinct.
-#[tactic(auto, unfolding(crate::specs::Reading::list_at, crate::specs::Reading::kept_at))]
-pub(crate) fn distinct_at<'b>(
-    types: &[Ty],
-    peels: &Peels<'_>,
-    alloc: Global,
-    whole: usize,
-    bytes: &'b [u8],
-) -> Result<(Tree, &'b [u8]), DecodeFault>
-    ensures { Gives (λ x. (tree_of x.0, x.1.now)) result
-        (made rows_tree (list_at whole any_length (λ earlier. kept_at whole (is_new order.compare_rows earlier) (row_at whole (peeled_types peels.now types.now))) bytes.now)) }
-{
-    let (count, rest) = u64_at(bytes)?;
-    let (rows, rest) = apart_at(types, peels, alloc, whole, count, rest)?;
     Ok((Tree::Rows(rows), rest))
 }

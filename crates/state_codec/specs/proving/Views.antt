@@ -1,6 +1,8 @@
 -- Parts of values of the code, as the definitions see them, and lists that are read item by item.
 use Rattle.std.specs.Prelude.{List, [], ◌∷◌, ◌++◌, map, Ok}
 use Rattle.agg_terms.specs.Values as family
+use Rattle.set_leaves.specs.Tuples.{values_tuple}
+use Rattle.set_leaves.specs.declared.tuple.Tuple.{Tuple}
 use Rattle.value_types.specs.declared.value.Value.{Value}
 use Rattle.value_types.specs.Folds.{value_of}
 use Rattle.state_codec.specs.Reading.{Read, ◌>>=◌}
@@ -21,3 +23,7 @@ with_front front read = read >>= λ x. Ok (front ++ x.0, x.1)
 -- the keys of entries
 abbrev pub keys_of : List (family.Value × family.Tree) → List family.Value
 keys_of es = map (λ e. e.0) es
+
+-- the tuples that a set keeps, in their order
+abbrev pub kept_rows : List Tuple → List (List family.Value)
+kept_rows ts = map (λ t. values_tuple t.values) ts
