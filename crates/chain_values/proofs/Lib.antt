@@ -1,2 +1,9 @@
-pub mod Finished
+pub mod Passing
+pub mod SlotValues
+pub mod KeyValues
+pub mod Turns
+pub mod KeptParts
+pub mod FirstValues
+pub mod FunctionValues
 pub mod Fitted
+pub mod ReadyLaws

@@ -1,5 +1,5 @@
 -- Rows that have a value of each type, and a state that took them.
-use Rattle.std.specs.Prelude.{Bool, true, false, ◌&&◌, List, [], ◌∷◌, map}
+use Rattle.std.specs.Prelude.{◌≡◌, Bool, true, false, ◌&&◌, List, [], ◌∷◌, map}
 use Rattle.agg_terms.specs.Chains.{Chain, Ty}
 use Rattle.agg_terms.specs.Fitting.{fits_value}
 use Rattle.agg_terms.specs.Lists.{Each}
@@ -22,6 +22,10 @@ are_values _ _ = false
 -- the rows of a batch
 abbrev pub rows_of : Rows → List (List Value)
 rows_of batch = map (map value_of) batch.rows
+
+-- a batch of these rows, where they have a value of each type
+pub record HasRows (ts : List Ty) (rs : List (List Value)) (batch : Rows) : Type 0 where
+  pub rows : Each (AreValues ts) rs → rows_of batch ≡ rs
 
 -- a state that took these rows, where they have a value of each type
 pub record IsRefed (c : Chain) (us : List Ty) (ts : List Ty) (rs : List (List Value)) (s : Running) : Type 0 where

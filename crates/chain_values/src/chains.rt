@@ -1,6 +1,6 @@
 //! The value of a state, and whether a row reached the function: along the chain, with the types at each link.
 ghost use Rattle.std.specs.Prelude.{◌≡◌, map, IfOk};
-ghost use Rattle.agg_terms.specs.Chains.{OrDefault, OrNull};
+ghost use Rattle.agg_terms.specs.Chains.{OrDefault, OrNull, State};
 ghost use Rattle.agg_meaning.specs.States.{IsFedChain, MeansChain};
 ghost use Rattle.agg_typing.specs.Promises.{IsLegalCall};
 ghost use Rattle.link_types.specs.Links.{inner_types};
@@ -20,7 +20,7 @@ use value_types::{Chain, OutOfMemory, Ty, Value};
 
 /// The value of a state of a chain over these types: what the rows mean that it stands for.
 #[cycle(value_over)]
-#[tactic(auto, using(value_types::proofs::FoldLaws::chain_laws, crate::proofs::Finished::value_laws))]
+#[tactic(auto, using(value_types::proofs::FoldLaws::chain_laws, crate::proofs::Passing::value_laws))]
 pub fn value_over(
     chain: &Chain,
     alloc: Global,
@@ -48,7 +48,7 @@ pub fn value_over(
         Chain::Resample(start, end, step, of) => {
             value_of_parts(*start, *end, *step, of.get(), alloc, types, function, state)
         }
-        Chain::State(_) => Ok(Value::Cell(tree(alloc, state)?)),
+        Chain::State(of) => state_value(of.get(), alloc, types, state),
         Chain::Merge(of) => {
             let inner = inward_types(alloc, chain, types)?;
             value_over(of.get(), alloc, inner.as_slice(), function, state)
@@ -56,10 +56,18 @@ pub fn value_over(
     }
 }
 
+/// The state itself, as its tree. ClickHouse manual: "Aggregate function combinators", -State.
+#[tactic(auto, using(value_types::proofs::FoldLaws::value_laws, crate::proofs::Passing::state_laws))]
+fn state_value(of: &Chain, alloc: Global, types: &[Ty], state: &Running) -> Result<Value, OutOfMemory>
+    ensures { IfOk result (λ v. MeansChain (State (chain_of of.now)) (map ty_of types.now) (tree_in state.now) (value_of v)) }
+{
+    Ok(Value::Cell(tree(alloc, state)?))
+}
+
 /// NULL where no row reached the function and the result's type can be Nullable. ClickHouse manual: "Aggregate function
 /// combinators", -OrNull.
 #[cycle(value_over)]
-#[tactic(auto, using(crate::proofs::Finished::null_laws))]
+#[tactic(auto, using(crate::proofs::Passing::null_laws))]
 fn value_or_null(
     of: &Chain,
     alloc: Global,
@@ -81,7 +89,7 @@ fn value_or_null(
 /// The default of the result's type where no row reached the function. ClickHouse manual: "Aggregate function
 /// combinators", -OrDefault.
 #[cycle(value_over)]
-#[tactic(auto, using(crate::proofs::Finished::default_laws))]
+#[tactic(auto, using(crate::proofs::Passing::default_laws))]
 fn value_or_default(
     of: &Chain,
     alloc: Global,
@@ -103,7 +111,7 @@ fn value_or_default(
 
 /// Whether the rows that a state stands for reached the function.
 #[cycle(fed_over)]
-#[tactic(auto, using(value_types::proofs::FoldLaws::chain_laws, crate::proofs::Finished::fed_laws))]
+#[tactic(auto, using(value_types::proofs::FoldLaws::chain_laws, crate::proofs::Passing::fed_laws))]
 pub fn fed_over(
     chain: &Chain,
     alloc: Global,

@@ -16,7 +16,7 @@ use value_types::{Chain, OutOfMemory, Ty, Value};
 
 /// The value over the first rows.
 #[cycle(value_over)]
-#[tactic(auto, using(running_states::proofs::Layers::row_laws))]
+#[tactic(auto, using(running_states::proofs::Layers::row_laws, crate::proofs::FirstValues::first_laws))]
 pub fn value_of_first(
     of: &Chain,
     alloc: Global,
@@ -40,7 +40,7 @@ pub fn value_of_first(
 
 /// Whether a first row reached the function.
 #[cycle(fed_over)]
-#[tactic(auto, using(running_states::proofs::Layers::row_laws))]
+#[tactic(auto, using(running_states::proofs::Layers::row_laws, crate::proofs::FirstValues::first_laws))]
 pub fn fed_first(
     of: &Chain,
     alloc: Global,

@@ -1,16 +1,13 @@
 //! The first rows of -Distinct as rows of columns, from which they are lent to the chain inside.
 ghost use Rattle.std.specs.Prelude.{◌≡◌, ◌≤◌, length, map, true, IfOk, IsTrue, OnOk};
-ghost use Rattle.agg_terms.specs.Lists.{Each};
-ghost use Rattle.agg_meaning.specs.Feeds.{AreValues};
 ghost use Rattle.agg_meaning.specs.Lawful.{IsSound};
 ghost use Rattle.agg_typing.specs.Legal.{function_of};
-ghost use Rattle.columns.specs.Rows.{RowFits};
 ghost use Rattle.distinct_rows.specs.Rows.{rows_in};
 ghost use Rattle.value_types.specs.Folds.{chain_of, ty_of, value_of};
 ghost use Rattle.running_states.specs.Served.{is_served};
 ghost use Rattle.running_states.specs.Shapes.{IsState};
 ghost use Rattle.chain_links.specs.Words.{FeedsAll};
-ghost use Rattle.chain_values.specs.Fitting.{IsRefed, are_values, rows_of};
+ghost use Rattle.chain_values.specs.Fitting.{HasRows, IsRefed, are_values, rows_of};
 
 use agg_values::fits;
 use chain_links::{feed, fresh};
@@ -35,16 +32,18 @@ fn row_fits(types: &[Ty], row: &[Value]) -> bool
 }
 
 /// The rows, where each has a value of each type.
+#[tactic(auto, using(crate::proofs::Fitted::batch_laws))]
 fn batch_of(alloc: Global, types: &[Ty], rows: &DistinctRows) -> Result<Batch, OutOfMemory>
     ensures types { IfOk result (λ batch. batch.types ≡ types.now) }
-    ensures rows { IfOk result (λ batch. Each (AreValues (map ty_of types.now)) (rows_in rows.now) → rows_of batch ≡ rows_in rows.now) }
+    ensures rows { IfOk result (λ batch. HasRows (map ty_of types.now) (rows_in rows.now) batch) }
 {
     let mut batch = Batch::new(alloc, types)?;
     for i in 0..rows.len() {
         let row = rows.row(i);
-        if row_fits(types, row) {
-            batch.push_row(alloc, row)?;
+        if !row_fits(types, row) {
+            continue;
         }
+        batch.push_row(alloc, row)?;
     }
     Ok(batch)
 }
@@ -62,6 +61,7 @@ fn lend<'a>(view: &RowView<'a>, count: usize, row: &mut Args<'a>)
 }
 
 /// Feeds the rows of a batch to a state.
+#[tactic(auto, using(crate::proofs::Fitted::feed_laws))]
 fn feed_batch(
     chain: &Chain,
     alloc: Global,
@@ -81,12 +81,14 @@ fn feed_batch(
     let mut row = Args::new();
     for i in 0..batch.len() {
         lend(&batch.row(i), count, &mut row);
+        let _count = row.len();
         feed(chain, alloc, function, state, row.as_slice())?;
     }
     Ok(())
 }
 
 /// The state of the chain inside that has taken the first rows.
+#[tactic(auto, using(crate::proofs::Fitted::refed_laws))]
 pub fn refed(
     chain: &Chain,
     alloc: Global,

@@ -13,7 +13,7 @@ use std::alloc::Global;
 use value_types::{Leaf, OutOfMemory, Ty, Value};
 
 /// The function's value.
-#[tactic(auto, using(running_states::proofs::Layers::slot_laws, crate::proofs::Finished::function_laws))]
+#[tactic(auto, using(running_states::proofs::Layers::slot_laws, crate::proofs::FunctionValues::function_laws))]
 pub fn value_of_function(
     leaf: &Leaf,
     alloc: Global,
@@ -34,7 +34,7 @@ pub fn value_of_function(
 }
 
 /// Whether a row reached the function.
-#[tactic(auto, using(running_states::proofs::Layers::slot_laws, crate::proofs::Finished::function_laws))]
+#[tactic(auto, using(running_states::proofs::Layers::slot_laws, crate::proofs::FunctionValues::function_laws))]
 pub fn fed_function(
     leaf: &Leaf,
     types: &[Ty],

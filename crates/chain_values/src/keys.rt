@@ -20,6 +20,7 @@ use value_types::{Chain, OutOfMemory, Seq, Ty, Value};
 
 /// Each key with its value.
 #[cycle(value_over)]
+#[tactic(auto, using(crate::proofs::Turns::value_turns))]
 fn pairs_of(
     of: &Chain,
     alloc: Global,
@@ -44,6 +45,7 @@ fn pairs_of(
 
 /// Whether a row reached the function at some key.
 #[cycle(fed_over)]
+#[tactic(auto, using(crate::proofs::Turns::fed_turns))]
 fn some_key_fed(
     of: &Chain,
     alloc: Global,
@@ -66,7 +68,7 @@ fn some_key_fed(
 
 /// The map of the keys' values.
 #[cycle(value_over)]
-#[tactic(auto, using(running_states::proofs::Layers::key_laws))]
+#[tactic(auto, using(running_states::proofs::Layers::key_laws, crate::proofs::KeptParts::key_values))]
 pub fn value_at_keys(
     of: &Chain,
     alloc: Global,
@@ -91,7 +93,7 @@ pub fn value_at_keys(
 
 /// Whether a row reached the function at some key.
 #[cycle(fed_over)]
-#[tactic(auto, using(running_states::proofs::Layers::key_laws))]
+#[tactic(auto, using(running_states::proofs::Layers::key_laws, crate::proofs::KeptParts::key_tolds))]
 pub fn fed_keys(
     of: &Chain,
     alloc: Global,

@@ -18,6 +18,7 @@ use value_types::{Chain, OutOfMemory, Seq, Ty, Value};
 
 /// The value of each slot.
 #[cycle(value_over)]
+#[tactic(auto, using(crate::proofs::Turns::value_turns))]
 fn values_of(
     of: &Chain,
     alloc: Global,
@@ -40,6 +41,7 @@ fn values_of(
 
 /// Whether a row reached the function in some slot.
 #[cycle(fed_over)]
+#[tactic(auto, using(crate::proofs::Turns::fed_turns))]
 fn some_fed(
     of: &Chain,
     alloc: Global,
@@ -62,7 +64,7 @@ fn some_fed(
 
 /// The array of the slots' values.
 #[cycle(value_over)]
-#[tactic(auto, using(running_states::proofs::Layers::slot_laws))]
+#[tactic(auto, using(running_states::proofs::Layers::slot_laws, crate::proofs::KeptParts::slot_values))]
 pub fn value_of_slots(
     of: &Chain,
     alloc: Global,
@@ -87,7 +89,7 @@ pub fn value_of_slots(
 
 /// Whether a row reached the function at some place.
 #[cycle(fed_over)]
-#[tactic(auto, using(running_states::proofs::Layers::slot_laws))]
+#[tactic(auto, using(running_states::proofs::Layers::slot_laws, crate::proofs::KeptParts::slot_tolds))]
 pub fn fed_slots(
     of: &Chain,
     alloc: Global,
@@ -111,7 +113,7 @@ pub fn fed_slots(
 
 /// The array of the intervals' values.
 #[cycle(value_over)]
-#[tactic(auto, using(running_states::proofs::Layers::slot_laws))]
+#[tactic(auto, using(running_states::proofs::Layers::slot_laws, crate::proofs::KeptParts::part_values))]
 pub fn value_of_parts(
     start: i64,
     end: i64,
@@ -138,7 +140,7 @@ pub fn value_of_parts(
 
 /// Whether a row reached the function in some interval.
 #[cycle(fed_over)]
-#[tactic(auto, using(running_states::proofs::Layers::slot_laws))]
+#[tactic(auto, using(running_states::proofs::Layers::slot_laws, crate::proofs::KeptParts::part_tolds))]
 pub fn fed_parts(
     start: i64,
     end: i64,
