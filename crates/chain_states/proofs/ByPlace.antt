@@ -32,6 +32,15 @@ use Rattle.chain_states.specs.declared.state.State.{State}
 use Rattle.chain_states.specs.Calls.{argument_rows, batch_row, reaching}
 use Rattle.chain_states.specs.Places.{AreStates, FeedsAt, IsConditions, column_at}
 
+pub each_set : {X : Type 0} (P : X → Type 0) (xs : List X) (i : ℕ) (x : X) → Each P xs → P x → Each P (set xs i x)
+each_set P [] i x k p = tt
+each_set P (y ∷ xs) zero x k p = (p, k.1)
+each_set P (y ∷ xs) (suc i) x k p = (k.0, each_set P xs i x k.1 p)
+
+pub each_push : {X : Type 0} (P : X → Type 0) (xs : List X) (x : X) → Each P xs → P x → Each P (xs ++ x ∷ [])
+each_push P [] x k p = (p, tt)
+each_push P (y ∷ xs) x k p = (k.0, each_push P xs x k.1 p)
+
 -- rows behind rows
 fed_then : (c : Chain) (us : List Ty) (rs qs : List (List Value)) (s u v : Running) → FeedsAll c us rs s u → FeedsAll c us qs u v → FeedsAll c us (rs ++ qs) s v
 fed_then c us rs qs s u v a b = record {

@@ -1,2 +1,3 @@
-pub mod ReadyLaws
+pub mod Said
+pub mod Lent
 pub mod ByPlace

@@ -11,14 +11,14 @@ use Rattle.value_types.specs.Folds.{chain_of, ty_of, value_of}
 use Rattle.value_types.specs.declared.value.Value.TheVariants as value
 use Rattle.running_states.specs.Shapes.{IsState}
 use Rattle.running_states.specs.Trees as links
-use Rattle.chain_states.specs.declared.ready.ReadyCall.{ReadyCall}
 use Rattle.chain_states.specs.declared.state.State.{State}
+use Rattle.chain_states.specs.Ready.{Call}
 
 -- the chain of a call, and the types of its arguments
-abbrev pub chain_in : ReadyCall → Chain
+abbrev pub chain_in : Call → Chain
 chain_in k = chain_of k.legal.chain
 
-abbrev pub types_in : ReadyCall → List Ty
+abbrev pub types_in : Call → List Ty
 types_in k = map ty_of k.legal.args
 
 -- the tree of a state
@@ -26,11 +26,11 @@ abbrev pub tree_in : State → Tree
 tree_in s = links.tree_in s.running
 
 -- a state of a call: what it is made of
-abbrev pub IsStateOf : ReadyCall → State → Type 0
+abbrev pub IsStateOf : Call → State → Type 0
 IsStateOf k s = IsState (chain_in k) (map ty_of k.types) s.running
 
 -- rows behind those that a state stood for
-abbrev pub StateTakes : ReadyCall → List (List Value) → State → State → Type 0
+abbrev pub StateTakes : Call → List (List Value) → State → State → Type 0
 StateTakes k rows s v = TakesFeeds (chain_in k) (types_in k) (map (opened (chain_in k)) rows) (tree_in s) (tree_in v)
 
 -- the elements whose place is g, in their order
@@ -49,12 +49,12 @@ argument_rows columns arguments from (suc n) =
     argument_rows columns arguments from n ++ items_at arguments (batch_row columns (from + n)) ∷ []
 
 -- As many states as before, each with the rows of its place behind those that it stood for.
-pub record TakeByPlace (k : ReadyCall) (ps : List ℕ) (rs : List (List Value)) (ss vv : List State) : Type 0 where
+pub record TakeByPlace (k : Call) (ps : List ℕ) (rs : List (List Value)) (ss vv : List State) : Type 0 where
   pub long : length vv ≡ length ss
   pub at : (g : ℕ) (d : State) → g < length ss → StateTakes k (reaching g ps rs) (get_or ss g d) (get_or vv g d)
 
 -- States of no rows, n of them, behind those that there were.
-pub record AddsFresh (k : ReadyCall) (n : ℕ) (ss vv : List State) : Type 0 where
+pub record AddsFresh (k : Call) (n : ℕ) (ss vv : List State) : Type 0 where
   pub long : length vv ≡ length ss + n
   pub same : (i : ℕ) (d : State) → i < length ss → get_or vv i d ≡ get_or ss i d
   pub fresh : (i : ℕ) (d : State) → length ss ≤ i → i < length vv → tree_in (get_or vv i d) ≡ normal (chain_in k) (types_in k) []

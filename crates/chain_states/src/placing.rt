@@ -3,8 +3,10 @@ ghost use Rattle.std.specs.Prelude.{◌≡◌, ◌<◌, ◌≤◌, ◌-◌, ◌+
 ghost use Rattle.agg_terms.specs.Chains.{If};
 ghost use Rattle.agg_terms.specs.Lists.{Each};
 ghost use Rattle.agg_meaning.specs.Lawful.{IsSound};
+ghost use Rattle.agg_meaning.specs.Functions.{arg};
 ghost use Rattle.agg_meaning.specs.Views.{items_at};
 ghost use Rattle.agg_typing.specs.Legal.{function_of};
+ghost use Rattle.typed_columns.specs.Items.{item_value};
 ghost use Rattle.value_types.specs.Folds.{chain_of, ty_of, value_of};
 ghost use Rattle.running_states.specs.Served.{is_served};
 ghost use Rattle.running_states.specs.Shapes.{IsState};
@@ -17,11 +19,23 @@ use crate::state::State;
 use chain_links::feed;
 use running_states::Running;
 use std::alloc::Global;
-use typed_columns::{Args, Column};
+use typed_columns::{Args, Column, Item};
 use value_types::{Chain, OutOfMemory, Ty};
+
+/// Lends the argument that columns have at a number.
+#[inline]
+#[tactic(auto, using(crate::proofs::Lent::item_laws))]
+fn lend_item<'a>(columns: &'a [Column], argument: u32, number: usize) -> Item<'a>
+    requires column { argument < length columns.now }
+    requires within { All (λ c. number < length c.values) columns.now }
+    ensures { value_of (item_value result) ≡ arg argument (batch_row columns.now number) }
+{
+    columns[argument as usize].item(number)
+}
 
 /// Lends the row of arguments that columns have at a number.
 #[inline]
+#[tactic(auto, using(crate::proofs::Lent::lent_laws))]
 fn lend_row<'a>(columns: &'a [Column], arguments: &[u32], number: usize, row: &mut Args<'a>)
     requires few { length arguments.now ≤ 64 }
     requires columns { All (λ a. a < length columns.now) arguments.now }
@@ -30,12 +44,13 @@ fn lend_row<'a>(columns: &'a [Column], arguments: &[u32], number: usize, row: &m
 {
     row.clear();
     for i in 0..arguments.len() {
-        row.push(columns[arguments[i] as usize].item(number));
+        row.push(lend_item(columns, arguments[i], number));
     }
 }
 
 /// Feeds the row of arguments that columns have at a number. One argument alone is lent with no list.
 #[inline]
+#[tactic(auto, using(crate::proofs::Lent::row_laws))]
 fn feed_row<'a>(
     chain: &Chain,
     alloc: Global,
@@ -57,7 +72,7 @@ fn feed_row<'a>(
 {
     match arguments {
         [only] => {
-            let item = columns[*only as usize].item(number);
+            let item = lend_item(columns, *only, number);
             feed(chain, alloc, types, state, &[item])
         }
         _ => {
@@ -248,7 +263,7 @@ fn feed_chain(
 /// # Errors
 ///
 /// [`OutOfMemory`] where there is no room; the states are then of unknown content.
-#[tactic(auto, using(crate::proofs::ReadyLaws::ready_laws))]
+#[tactic(auto, using(crate::proofs::Said::place_laws))]
 pub fn feed_places(
     call: &ReadyCall,
     alloc: Global,
@@ -269,8 +284,8 @@ pub fn feed_places(
     ensures shape { OnOk result (Each (IsStateOf call.now) states.new.items) }
     ensures rows { OnOk result (TakeByPlace call.now places.now (argument_rows columns.now arguments.now from (to - from)) states.old.items states.new.items) }
 {
-    let chain = call.legal.chain();
-    let types = call.types.as_slice();
+    let chain = call.chain();
+    let types = call.types();
     feed_chain(
         chain, alloc, types, states, places, columns, arguments, from, to,
     )

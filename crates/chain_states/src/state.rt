@@ -28,13 +28,13 @@ impl State {
     /// # Errors
     ///
     /// [`OutOfMemory`] where there is no room for it.
-    #[tactic(auto, using(crate::proofs::ReadyLaws::ready_laws))]
+    #[tactic(auto, using(crate::proofs::Said::state_laws))]
     pub fn fresh(alloc: Global, call: &ReadyCall) -> Result<State, OutOfMemory>
         ensures shape { IfOk result (λ s. IsStateOf call.now s) }
         ensures fresh { IfOk result (λ s. tree_in s ≡ normal (chain_in call.now) (types_in call.now) []) }
     {
-        let chain = call.legal.chain();
-        let running = chain_links::fresh(chain, alloc, call.types.as_slice())?;
+        let chain = call.chain();
+        let running = chain_links::fresh(chain, alloc, call.types())?;
         Ok(State { running })
     }
 
@@ -44,6 +44,7 @@ impl State {
     ///
     /// [`OutOfMemory`] where there is no room; the state is then of unknown content.
     #[inline]
+    #[tactic(auto, using(crate::proofs::Said::row_laws))]
     pub fn feed(
         &mut self,
         alloc: Global,
@@ -64,7 +65,7 @@ impl State {
     ///
     /// [`OutOfMemory`] where there is no room; the state is then of unknown content.
     #[inline]
-    #[tactic(auto, using(crate::proofs::ReadyLaws::ready_laws))]
+    #[tactic(auto, using(crate::proofs::Said::state_laws))]
     pub fn feed_items(
         &mut self,
         alloc: Global,
@@ -76,8 +77,8 @@ impl State {
         ensures shape { OnOk result (IsStateOf call.now self.new) }
         ensures row { OnOk result (StateTakes call.now (map argument row.now ∷ []) self.old self.new) }
     {
-        let chain = call.legal.chain();
-        chain_links::feed(chain, alloc, call.types.as_slice(), &mut self.running, row)
+        let chain = call.chain();
+        chain_links::feed(chain, alloc, call.types(), &mut self.running, row)
     }
 
     /// Joins the rows of a later state of the call behind.
@@ -85,7 +86,7 @@ impl State {
     /// # Errors
     ///
     /// [`OutOfMemory`] where there is no room; the state is then of unknown content.
-    #[tactic(auto, using(crate::proofs::ReadyLaws::ready_laws))]
+    #[tactic(auto, using(crate::proofs::Said::state_laws))]
     pub fn merge(
         &mut self,
         alloc: Global,
@@ -97,9 +98,8 @@ impl State {
         ensures shape { OnOk result (IsStateOf call.now self.new) }
         ensures rows { OnOk result (Joins (chain_in call.now) (types_in call.now) (tree_in self.old) (tree_in later.now) (tree_in self.new)) }
     {
-        let chain = call.legal.chain();
-        let types = call.types.as_slice();
-        chain_links::merge(chain, alloc, types, &mut self.running, &later.running)
+        let chain = call.chain();
+        chain_links::merge(chain, alloc, call.types(), &mut self.running, &later.running)
     }
 
     /// The value of the state: what its rows mean to the chain.
@@ -111,9 +111,8 @@ impl State {
         requires { IsStateOf call.now self.now }
         ensures { IfOk result (λ v. MeansChain (chain_in call.now) (types_in call.now) (tree_in self.now) (value_of v)) }
     {
-        let chain = call.legal.chain();
-        let args = call.legal.args();
-        value_over(chain, alloc, args, call.types.as_slice(), &self.running)
+        let chain = call.chain();
+        value_over(chain, alloc, call.args(), call.types(), &self.running)
     }
 
     /// Whether a row reached the function. -Distinct feeds a state of the chain inside to tell.
@@ -125,9 +124,8 @@ impl State {
         requires { IsStateOf call.now self.now }
         ensures { IfOk result (λ b. IsFedChain (chain_in call.now) (types_in call.now) (tree_in self.now) b) }
     {
-        let chain = call.legal.chain();
-        let args = call.legal.args();
-        fed_over(chain, alloc, args, call.types.as_slice(), &self.running)
+        let chain = call.chain();
+        fed_over(chain, alloc, call.args(), call.types(), &self.running)
     }
 
     /// A state of the same rows.
@@ -140,8 +138,8 @@ impl State {
         ensures shape { IfOk result (λ s. IsStateOf call.now s) }
         ensures copy { IfOk result (λ s. tree_in s ≡ tree_in self.now) }
     {
-        let chain = call.legal.chain();
-        let running = chain_links::copy(chain, alloc, call.types.as_slice(), &self.running)?;
+        let chain = call.chain();
+        let running = chain_links::copy(chain, alloc, call.types(), &self.running)?;
         Ok(State { running })
     }
 
@@ -161,13 +159,13 @@ impl State {
     /// # Errors
     ///
     /// [`OutOfMemory`] where there is no room for it.
-    #[tactic(auto, using(crate::proofs::ReadyLaws::ready_laws))]
+    #[tactic(auto, using(crate::proofs::Said::state_laws))]
     pub fn from_tree(alloc: Global, call: &ReadyCall, tree: &Tree) -> Result<State, OutOfMemory>
         ensures shape { IfOk result (λ s. IsStateOf call.now s) }
         ensures tree { IfOk result (λ s. IsTree (chain_in call.now) (types_in call.now) (tree_of tree.now) → tree_in s ≡ tree_of tree.now) }
     {
-        let chain = call.legal.chain();
-        let running = chain_links::from_tree(chain, alloc, call.types.as_slice(), tree)?;
+        let chain = call.chain();
+        let running = chain_links::from_tree(chain, alloc, call.types(), tree)?;
         Ok(State { running })
     }
 }

@@ -10,6 +10,7 @@ use Rattle.agg_meaning.specs.Suffixes.{fed, meaning}
 use Rattle.agg_meaning.proofs.Suffixed.{array_fed, array_means, if_fed, if_means, merge_fed, merge_means, state_means}
 use Rattle.agg_typing.specs.Promises.{IsLegalCall}
 use Rattle.agg_typing.proofs.Inward.{inner_is_legal}
+use Rattle.link_types.specs.Links.{inner_types}
 use Rattle.value_types.specs.declared.value.Value.{Value as Valued}
 use Rattle.value_types.specs.Folds.{value_of}
 
@@ -120,10 +121,31 @@ module _ {E : Type 0} (c : Chain) (ts : List Ty) (t : Tree) (b : Bool) (f : IsFe
 
 pub ruleset state_laws = (value_state)
 
+-- the types of the function, from the types handed inward
+module _ (c : Chain) (ts us fs : List Ty) where
+  pub function_if : us ≡ inward (If c) ts → fs ≡ inner_types (If c) ts → fs ≡ inner_types c us
+  function_if e h = h ∙ ap (inner_types c) (sym e)
+
+  pub function_array : us ≡ inward (Array c) ts → fs ≡ inner_types (Array c) ts → fs ≡ inner_types c us
+  function_array e h = h ∙ ap (inner_types c) (sym e)
+
+  pub function_merge : us ≡ inward (Merge c) ts → fs ≡ inner_types (Merge c) ts → fs ≡ inner_types c us
+  function_merge e h = h ∙ ap (inner_types c) (sym e)
+
+pub ruleset if_values = (legal_if, function_if, value_if)
+
+pub ruleset if_tolds = (legal_if, function_if, fed_if)
+
+pub ruleset array_values = (legal_array, function_array, value_array)
+
+pub ruleset array_tolds = (legal_array, function_array, fed_array)
+
+pub ruleset merge_values = (legal_merge, function_merge, value_merge)
+
+pub ruleset merge_tolds = (legal_merge, function_merge, fed_merge)
+
 pub ruleset null_laws = (legal_or_null, fed_values, bare_values, null_value)
 
 pub ruleset default_laws = (legal_or_default, default_values, reached_values)
 
-pub ruleset value_laws = (value_if, value_array, value_merge, legal_if, legal_array, legal_merge, legal_or_null, legal_or_default, legal_state, legal_distinct)
-
-pub ruleset fed_laws = (fed_if, fed_array, fed_merge, fed_or_null, fed_or_default, fed_state, legal_if, legal_array, legal_merge, legal_or_null, legal_or_default, legal_state, legal_distinct)
+pub ruleset fed_laws = (fed_or_null, fed_or_default, fed_state, legal_or_null, legal_or_default, legal_state)

@@ -10,17 +10,20 @@ ghost use Rattle.running_states.specs.Trees.{tree_in};
 
 use crate::first_rows::{fed_first, value_of_first};
 use crate::functions::{fed_function, value_of_function};
+use crate::inward::{
+    fed_elements, fed_states, fed_when_met, value_of_elements, value_of_states, value_when_met,
+};
 use crate::keys::{fed_keys, value_at_keys};
 use crate::slots::{fed_parts, fed_slots, value_of_parts, value_of_slots};
 use chain_links::tree;
-use link_types::{front_types, inward_types, result_default, result_takes_null};
+use link_types::{inward_types, result_default, result_takes_null};
 use running_states::Running;
 use std::alloc::Global;
 use value_types::{Chain, OutOfMemory, Ty, Value};
 
 /// The value of a state of a chain over these types: what the rows mean that it stands for.
 #[cycle(value_over)]
-#[tactic(auto, using(value_types::proofs::FoldLaws::chain_laws, crate::proofs::Passing::value_laws))]
+#[tactic(auto, using(value_types::proofs::FoldLaws::chain_laws))]
 pub fn value_over(
     chain: &Chain,
     alloc: Global,
@@ -35,11 +38,8 @@ pub fn value_over(
 {
     match chain {
         Chain::Leaf(leaf) => value_of_function(leaf, alloc, types, function, state),
-        Chain::If(of) => value_over(of.get(), alloc, front_types(types), function, state),
-        Chain::Array(of) => {
-            let inner = inward_types(alloc, chain, types)?;
-            value_over(of.get(), alloc, inner.as_slice(), function, state)
-        }
+        Chain::If(of) => value_when_met(of.get(), alloc, types, function, state),
+        Chain::Array(of) => value_of_elements(of.get(), alloc, types, function, state),
         Chain::MapOf(of) => value_at_keys(of.get(), alloc, types, function, state),
         Chain::ForEach(of) => value_of_slots(of.get(), alloc, types, function, state),
         Chain::OrNull(of) => value_or_null(of.get(), alloc, types, function, state),
@@ -51,7 +51,7 @@ pub fn value_over(
         Chain::State(of) => state_value(of.get(), alloc, types, state),
         Chain::Merge(of) => {
             let inner = inward_types(alloc, chain, types)?;
-            value_over(of.get(), alloc, inner.as_slice(), function, state)
+            value_of_states(of.get(), alloc, types, inner.as_slice(), function, state)
         }
     }
 }
@@ -80,7 +80,10 @@ fn value_or_null(
     requires shape { IsState (OrNull (chain_of of.now)) (map ty_of function.now) state.now }
     ensures { IfOk result (λ v. MeansChain (OrNull (chain_of of.now)) (map ty_of types.now) (tree_in state.now) (value_of v)) }
 {
-    if !fed_over(of, alloc, types, function, state)? && result_takes_null(alloc, of, types)? {
+    if fed_over(of, alloc, types, function, state)? {
+        return value_over(of, alloc, types, function, state);
+    }
+    if result_takes_null(alloc, of, types)? {
         return Ok(Value::Nil);
     }
     value_over(of, alloc, types, function, state)
@@ -126,11 +129,8 @@ pub fn fed_over(
 {
     match chain {
         Chain::Leaf(leaf) => fed_function(leaf, types, function, state),
-        Chain::If(of) => fed_over(of.get(), alloc, front_types(types), function, state),
-        Chain::Array(of) => {
-            let inner = inward_types(alloc, chain, types)?;
-            fed_over(of.get(), alloc, inner.as_slice(), function, state)
-        }
+        Chain::If(of) => fed_when_met(of.get(), alloc, types, function, state),
+        Chain::Array(of) => fed_elements(of.get(), alloc, types, function, state),
         Chain::MapOf(of) => fed_keys(of.get(), alloc, types, function, state),
         Chain::ForEach(of) => fed_slots(of.get(), alloc, types, function, state),
         Chain::OrNull(of) => fed_over(of.get(), alloc, types, function, state),
@@ -142,7 +142,7 @@ pub fn fed_over(
         Chain::State(of) => fed_over(of.get(), alloc, types, function, state),
         Chain::Merge(of) => {
             let inner = inward_types(alloc, chain, types)?;
-            fed_over(of.get(), alloc, inner.as_slice(), function, state)
+            fed_states(of.get(), alloc, types, inner.as_slice(), function, state)
         }
     }
 }
