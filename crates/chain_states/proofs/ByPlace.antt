@@ -1,10 +1,8 @@
 -- Rows fed by place, one after another.
-use Rattle.std.proofs.Common.{◌≡◌, ◌≢◌, ℕ, ℤ, zero, suc, ◌+◌, ◌<◌, ◌≤◌, nat_eq, Bool, true, false, cond, List, [], ◌∷◌, ◌++◌, map, take, length, get_or, ◌⊎◌, inl, inr, Some, pos, refl, sym, ap, ap₂, ◌∙◌, subst, append-nil, arith}
-use Rattle.std.specs.List.{slice_get}
+use Rattle.std.proofs.Common.{◌≡◌, ◌≢◌, ℕ, zero, suc, ◌+◌, ◌<◌, ◌≤◌, nat_eq, Bool, true, false, cond, List, [], ◌∷◌, ◌++◌, map, take, length, get_or, ◌⊎◌, inl, inr, Some, pos, refl, sym, ap, ◌∙◌, subst, arith}
 use Rattle.std.proofs.Math.ListN.{set}
 use Rattle.std.proofs.lemmas.Bool.{cases_eq}
-use Rattle.std.proofs.lemmas.List.{get_or-set_same, get_or-set_other, take_all, length-set, length-append, length-map, length-take-le, map-append}
-use Rattle.std.proofs.lemmas.Option.{get_or_from_slice_get}
+use Rattle.std.proofs.lemmas.List.{get_or-set_same, get_or-set_other, take_all, length-set, length-append, length-take-le, map-append}
 use Rattle.agg_terms.specs.Chains.{Chain, If, Ty}
 use Rattle.agg_terms.specs.Lists.{Each, front}
 use Rattle.agg_terms.specs.Types.{inward}
@@ -15,16 +13,13 @@ use Rattle.agg_meaning.specs.Picks.{when_met}
 use Rattle.agg_meaning.specs.States.{Takes, TakesFeeds}
 use Rattle.agg_meaning.specs.Views.{items_at}
 use Rattle.agg_meaning.proofs.Suffixed.{if_leaves, if_takes, takes_none, takes_then, when_above}
-use Rattle.int_leaves.specs.Rows.{argument}
-use Rattle.typed_columns.specs.Items.{item_value}
 use Rattle.typed_columns.specs.TypedValues.{TypedValues}
-use Rattle.typed_columns.specs.declared.item.Item.{Item}
-use Rattle.value_types.specs.Folds.{value_of}
-use Rattle.value_types.proofs.FoldLaws.{value_of-Num}
-use Rattle.value_types.specs.declared.value.Value.{Value as Valued}
+use Rattle.value_types.specs.Folds.{chain_of, value_of}
+use Rattle.value_types.proofs.FoldLaws.{chain_of-If, value_of-Num}
+use Rattle.value_types.specs.declared.chain.Chain.{Chain as Chained}
+use Rattle.value_types.specs.declared.chain.Chain.TheVariants as chained
 use Rattle.value_types.specs.declared.value.Value.TheVariants as value
 use Rattle.running_states.specs.declared.running.Running.{Running}
-use Rattle.running_states.specs.Shapes.{IsState}
 use Rattle.running_states.specs.Trees as links
 use Rattle.running_states.specs.Words.{Feeds}
 use Rattle.chain_links.specs.Words.{FeedsAll}
@@ -197,3 +192,10 @@ module _ (c : Chain) (us : List Ty) (ps : List ℕ) (columns : List TypedValues)
   left_more n =
       at_next (If c) us ps columns (arguments ++ a ∷ []) from i (items_at (arguments ++ a ∷ []) (batch_row columns (from + i))) ss vv vv l refl h
       (at_pass (If c) us (get_or ps i 0) (items_at (arguments ++ a ∷ []) (batch_row columns (from + i))) vv (where_left c us columns arguments a conditions (from + i) e k (ap (λ z. nat_eq z 0) n)))
+
+-- states of a chain with a condition are those of the chain inside
+pub inner_states : (chain of inner : Chained) (us : List Ty) (ss : List State) → chain ≡ chained.If of → inner ≡ of → AreStates (chain_of chain) us ss → AreStates (chain_of inner) us ss
+inner_states chain of inner us ss e g k = subst (λ c. AreStates (chain_of c) us ss) (sym g) (subst (λ c. AreStates c us ss) (ap chain_of e ∙ chain_of-If of) k)
+
+pub outer_states : (chain of inner : Chained) (us : List Ty) (ss : List State) → chain ≡ chained.If of → inner ≡ of → AreStates (chain_of inner) us ss → AreStates (chain_of chain) us ss
+outer_states chain of inner us ss e g k = subst (λ c. AreStates c us ss) (sym (ap chain_of e ∙ chain_of-If of)) (subst (λ c. AreStates (chain_of c) us ss) g k)

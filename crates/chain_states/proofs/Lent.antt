@@ -1,9 +1,7 @@
 -- Rows of arguments, lent from columns.
-use Rattle.std.proofs.Common.{◌≡◌, ℕ, zero, suc, ◌+◌, ◌<◌, List, [], ◌∷◌, ◌++◌, map, take, length, get_or, Some, refl, sym, ap, ◌∙◌, subst, arith, Result}
+use Rattle.std.proofs.Common.{◌≡◌, ℕ, zero, suc, ◌+◌, ◌<◌, List, [], ◌∷◌, ◌++◌, map, take, length, get_or, Some, refl, sym, ap, ◌∙◌, arith}
 use Rattle.std.specs.List.{slice_get}
-use Rattle.std.specs.Result.{OnOk}
 use Rattle.std.proofs.lemmas.List.{map-append, take_more}
-use Rattle.agg_terms.specs.Chains.{Chain, Ty}
 use Rattle.agg_terms.specs.Values as family
 use Rattle.agg_meaning.specs.Functions.{arg}
 use Rattle.agg_meaning.specs.Views.{items_at}

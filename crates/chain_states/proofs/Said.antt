@@ -1,5 +1,5 @@
 -- What the calls on states say of a chain over all argument types, said of a call's own.
-use Rattle.std.proofs.Common.{◌≡◌, ◌<◌, ℕ, List, [], ◌∷◌, map, length, get_or, refl, sym, ap, ◌∙◌, Result}
+use Rattle.std.proofs.Common.{◌≡◌, ℕ, List, [], ◌∷◌, map, refl, sym, ap, ◌∙◌, Result}
 use Rattle.std.specs.Result.{OnOk}
 use Rattle.agg_terms.specs.Chains.{Chain, Ty}
 use Rattle.agg_terms.specs.Trees.{IsTree}

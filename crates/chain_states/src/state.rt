@@ -99,7 +99,13 @@ impl State {
         ensures rows { OnOk result (Joins (chain_in call.now) (types_in call.now) (tree_in self.old) (tree_in later.now) (tree_in self.new)) }
     {
         let chain = call.chain();
-        chain_links::merge(chain, alloc, call.types(), &mut self.running, &later.running)
+        chain_links::merge(
+            chain,
+            alloc,
+            call.types(),
+            &mut self.running,
+            &later.running,
+        )
     }
 
     /// The value of the state: what its rows mean to the chain.
