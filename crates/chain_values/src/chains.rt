@@ -1,5 +1,5 @@
 //! The value of a state, and whether a row reached the function: along the chain, with the types at each link.
-ghost use Rattle.std.specs.Prelude.{◌≡◌, map, IfOk};
+ghost use Rattle.std.specs.Prelude.{◌≡◌, ◌||◌, map, IfOk};
 ghost use Rattle.agg_terms.specs.Chains.{OrDefault, OrNull, State};
 ghost use Rattle.agg_meaning.specs.States.{IsFedChain, MeansChain};
 ghost use Rattle.agg_typing.specs.Promises.{IsLegalCall};
@@ -145,4 +145,12 @@ pub fn fed_over(
             fed_states(of.get(), alloc, types, inner.as_slice(), function, state)
         }
     }
+}
+
+/// Whether one of both is.
+#[inline]
+pub fn either(first: bool, second: bool) -> bool
+    ensures { result ≡ (first || second) }
+{
+    first || second
 }

@@ -12,7 +12,7 @@ ghost use Rattle.running_states.specs.Entries.{entries_in};
 ghost use Rattle.row_parts.specs.Rows.{pair_value};
 ghost use Rattle.chain_values.specs.Finished.{AreKeysFed, MeanKeys};
 
-use crate::chains::{fed_over, value_over};
+use crate::chains::{either, fed_over, value_over};
 use link_types::item_types;
 use running_states::Running;
 use std::alloc::Global;
@@ -61,7 +61,7 @@ fn some_key_fed(
     let mut is_fed = false;
     for i in 0..entries.len() {
         let here = fed_over(of, alloc, types, function, &entries[i].1)?;
-        is_fed = is_fed || here;
+        is_fed = either(is_fed, here);
     }
     Ok(is_fed)
 }

@@ -10,7 +10,7 @@ ghost use Rattle.running_states.specs.Shapes.{IsState};
 ghost use Rattle.running_states.specs.Trees.{tree_in};
 ghost use Rattle.chain_values.specs.Finished.{AreFed, MeanSlots};
 
-use crate::chains::{fed_over, value_over};
+use crate::chains::{either, fed_over, value_over};
 use link_types::{element_types, front_types};
 use running_states::Running;
 use std::alloc::Global;
@@ -34,7 +34,8 @@ fn values_of(
     let mut values = Seq::new(alloc);
     values.reserve(slots.len())?;
     for i in 0..slots.len() {
-        values.push(value_over(of, alloc, types, function, &slots[i])?)?;
+        let value = value_over(of, alloc, types, function, &slots[i])?;
+        values.push(value)?;
     }
     Ok(values)
 }
@@ -57,7 +58,7 @@ fn some_fed(
     let mut is_fed = false;
     for i in 0..slots.len() {
         let here = fed_over(of, alloc, types, function, &slots[i])?;
-        is_fed = is_fed || here;
+        is_fed = either(is_fed, here);
     }
     Ok(is_fed)
 }
@@ -132,7 +133,8 @@ pub fn value_of_parts(
     match state {
         Running::Slots(parts) => {
             let inner = front_types(types);
-            Ok(Value::List(values_of(of, alloc, inner, function, parts.as_slice())?))
+            let values = values_of(of, alloc, inner, function, parts.as_slice())?;
+            Ok(Value::List(values))
         }
         _ => unreachable!(),
     }
