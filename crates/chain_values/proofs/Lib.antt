@@ -1,0 +1,9 @@
+pub mod Passing
+pub mod SlotValues
+pub mod KeyValues
+pub mod Turns
+pub mod KeptParts
+pub mod FirstValues
+pub mod FunctionValues
+pub mod Fitted
+pub mod ReadyLaws
