@@ -3,5 +3,6 @@ pub mod Walked
 pub mod SlotLists
 pub mod FedRows
 pub mod Parts
+pub mod PartsJoined
 pub mod Entries
 pub mod Stored

@@ -22,7 +22,7 @@ use crate::feeding::feed;
 use crate::places::merge_slots;
 use crate::starting::fresh;
 use crate::storing::from_tree;
-use row_parts::{front, last_key};
+use row_parts::{front, interval_of, last_key};
 use running_states::Running;
 use std::alloc::Global;
 use typed_columns::Item;
