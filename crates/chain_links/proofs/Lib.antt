@@ -5,3 +5,4 @@ pub mod FedRows
 pub mod Parts
 pub mod Entries
 pub mod Stored
+pub mod Shaped
