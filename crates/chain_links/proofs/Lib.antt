@@ -6,3 +6,4 @@ pub mod Parts
 pub mod PartsJoined
 pub mod Entries
 pub mod Stored
+pub mod Shaped

@@ -21,7 +21,6 @@ ghost use Rattle.chain_links.specs.Words.{HasTrees};
 use crate::feeding::feed;
 use crate::places::merge_slots;
 use crate::starting::fresh;
-use crate::storing::from_tree;
 use row_parts::{front, interval_of, last_key};
 use running_states::Running;
 use std::alloc::Global;
@@ -107,30 +106,4 @@ pub fn merge_intervals(
         },
         _ => unreachable!(),
     }
-}
-
-/// The states with these trees, one for each interval; past the last tree one of no rows.
-#[cycle(from_tree)]
-pub fn parts_from_trees(
-    of: &Chain,
-    alloc: Global,
-    types: &[Ty],
-    trees: &[Tree],
-    count: usize,
-) -> Result<Vec<Running>, OutOfMemory>
-    requires sound { IsSound (chain_of of.now) }
-    requires served { is_served (function_of (chain_of of.now)) (map ty_of types.now) ≡ true }
-    ensures shape { IfOk result (λ all. Each (IsState (chain_of of.now) (map ty_of types.now)) all.items) }
-    ensures count { IfOk result (λ all. length all.items ≡ count) }
-    ensures tree { IfOk result (λ all. count ≡ length trees.now → HasTrees (chain_of of.now) (map ty_of types.now) (map tree_of trees.now) all.items) }
-{
-    let mut all = Vec::new(alloc);
-    for i in 0..count {
-        if i < trees.len() {
-            all.push(from_tree(of, alloc, types, &trees[i])?)?;
-        } else {
-            all.push(fresh(of, alloc, types)?)?;
-        }
-    }
-    Ok(all)
 }
