@@ -6,3 +6,7 @@ pub mod Parts
 pub mod Entries
 pub mod Stored
 pub mod Shaped
+pub mod StoredKeys
+pub mod FromTrees
+pub mod Heights
+pub mod Rooms
