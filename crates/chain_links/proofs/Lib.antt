@@ -9,3 +9,7 @@ pub mod PartsFed
 pub mod Entries
 pub mod Stored
 pub mod Shaped
+pub mod StoredKeys
+pub mod FromTrees
+pub mod Heights
+pub mod Rooms

@@ -57,7 +57,7 @@ module _ {E : Type 0} (r : Result Running E) (s : Running) where
   entries_same v xs g m h = if_ok r (λ z k. k ∙ ap (λ ys. keyed_tree (entries_in ys)) m ∙ sym (ap tree_in g ∙ tree_Keyed v)) h
 
 -- entries with the same trees at the same keys
-keys_listed : (es : List (Valued × Running)) → map (λ e. e.0) (entries_in es) ≡ keys_in es
+pub keys_listed : (es : List (Valued × Running)) → map (λ e. e.0) (entries_in es) ≡ keys_in es
 keys_listed es = map_twice (λ e. e.0) (λ e. (value_of e.0, tree_in e.1)) es
 
 pub copied_rise : (es xs : List (Valued × Running)) → entries_in es ≡ entries_in xs → Rising compare (keys_in xs) → Rising compare (keys_in es)

@@ -63,7 +63,7 @@ fn slots_in_tree(tree: &Tree) -> &[Tree]
 
 /// The state of -ForEach with the slots of a tree.
 #[cycle(from_tree)]
-#[tactic(auto, using(running_states::proofs::Layers::slot_laws))]
+#[tactic(auto, using(running_states::proofs::Layers::slot_laws, crate::proofs::FromTrees::slots_laws))]
 fn slots_from(of: &Chain, alloc: Global, types: &[Ty], tree: &Tree) -> Result<Running, OutOfMemory>
     requires sound { IsSound (chain_of of.now) }
     requires served { is_served (function_of (chain_of of.now)) (map ty_of types.now) ≡ true }
@@ -80,7 +80,7 @@ fn slots_from(of: &Chain, alloc: Global, types: &[Ty], tree: &Tree) -> Result<Ru
 
 /// The state of -Resample with the slots of a tree, one for each interval; past the last slot one of no rows.
 #[cycle(from_tree)]
-#[tactic(auto, using(running_states::proofs::Layers::slot_laws))]
+#[tactic(auto, using(running_states::proofs::Layers::slot_laws, crate::proofs::FromTrees::parts_laws))]
 fn parts_from(
     start: i64,
     end: i64,
@@ -99,11 +99,11 @@ fn parts_from(
     let trees = slots_in_tree(tree);
     let mut all = Vec::new(alloc);
     for i in 0..count {
-        if i < trees.len() {
-            all.push(from_tree(of, alloc, types, &trees[i])?)?;
-        } else {
+        if i >= trees.len() {
             all.push(fresh(of, alloc, types)?)?;
+            continue;
         }
+        all.push(from_tree(of, alloc, types, &trees[i])?)?;
     }
     Ok(Running::Slots(all))
 }
@@ -121,7 +121,7 @@ fn entries_in_tree(tree: &Tree) -> &[KeyedTree]
 
 /// The state of -Map with the entries of a tree, each at its key; of two at one key the first.
 #[cycle(from_tree)]
-#[tactic(auto, using(running_states::proofs::Layers::key_laws))]
+#[tactic(auto, using(running_states::proofs::Layers::key_laws, crate::proofs::FromTrees::keys_laws))]
 fn keys_from(of: &Chain, alloc: Global, types: &[Ty], tree: &Tree) -> Result<Running, OutOfMemory>
     requires sound { IsSound (chain_of of.now) }
     requires served { is_served (function_of (chain_of of.now)) (map ty_of types.now) ≡ true }
@@ -131,10 +131,11 @@ fn keys_from(of: &Chain, alloc: Global, types: &[Ty], tree: &Tree) -> Result<Run
     let stored = entries_in_tree(tree);
     let mut all = Vec::new(alloc);
     for i in 0..stored.len() {
-        if let Err(place) = place_of_value(all.as_slice(), &stored[i].key) {
-            let state = from_tree(of, alloc, types, &stored[i].tree)?;
-            all.insert(place, (stored[i].key.copy(alloc)?, state))?;
-        }
+        let Err(place) = place_of_value(all.as_slice(), &stored[i].key) else {
+            continue;
+        };
+        let key = stored[i].key.copy(alloc)?;
+        all.insert(place, (key, from_tree(of, alloc, types, &stored[i].tree)?))?;
     }
     Ok(Running::Keyed(all))
 }
