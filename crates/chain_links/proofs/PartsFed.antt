@@ -1,8 +1,6 @@
 -- A row fed to the intervals of -Resample.
-use Rattle.std.proofs.Common.{◌≡◌, ℕ, ◌<◌, ℤ, true, List, [], length, get_or, Option, Some, None, refl, sym, ◌∙◌, ap, subst, Result, Vec, Global}
+use Rattle.std.proofs.Common.{◌≡◌, ℕ, ◌<◌, ℤ, true, false, List, [], length, Some, sym, ◌∙◌, subst, Result, Vec, Global}
 use Rattle.std.specs.Result.{OnOk}
-use Rattle.std.proofs.Math.ListN.{set}
-use Rattle.std.proofs.lemmas.List.{length-set}
 use Rattle.agg_terms.specs.Chains.{Chain, Resample, Ty}
 use Rattle.agg_terms.specs.Lists.{Each, front}
 use Rattle.agg_terms.specs.Types.{intervals}
@@ -15,24 +13,33 @@ use Rattle.running_states.specs.declared.running.Running.TheVariants.{Slots, rol
 use Rattle.running_states.specs.declared.running.Running.TheViews.{out-Running, roll-Running, roll-out-Running}
 use Rattle.running_states.specs.Shapes.{AreParts, IsState}
 use Rattle.running_states.specs.Words.{Feeds}
+use Rattle.chain_links.specs.Words.{FeedsPart}
 use Rattle.running_states.proofs.Outcomes.{on_ok}
 use Rattle.chain_links.proofs.Parts.{are_parts, part_leaves, part_takes, parts_are}
-use Rattle.chain_links.proofs.SlotLists.{each_set}
+
+-- what was found of a key whose numbers were cast, said of the numbers
+module _ (start end : ℤ) (step : ℕ) where
+  pub found_inside : (j : ℕ) (key : ℤ) {a b k : ℤ} → a ≡ start → b ≡ end → k ≡ key → (j < intervals a b step) × (is_inside a b step j k ≡ true) → (j < intervals start end step) × (is_inside start end step j key ≡ true)
+  found_inside j key {a = a} {b = b} {k = k} s e q h =
+      subst (λ x. (j < intervals x end step) × (is_inside x end step j key ≡ true)) s
+      (subst (λ y. (j < intervals a y step) × (is_inside a y step j key ≡ true)) e (subst (λ z. (j < intervals a b step) × (is_inside a b step j z ≡ true)) q h))
+
+  pub found_outside : (key : ℤ) {a b k : ℤ} → a ≡ start → b ≡ end → k ≡ key → ((j : ℕ) → is_inside a b step j k ≡ false) → (j : ℕ) → is_inside start end step j key ≡ false
+  found_outside key {a = a} {b = b} {k = k} s e q h j =
+      subst (λ x. is_inside x end step j key ≡ false) s (subst (λ y. is_inside a y step j key ≡ false) e (subst (λ z. is_inside a b step j z ≡ false) q (h j)))
 
 module _ (start end : ℤ) (step : ℕ) (c : Chain) (us : List Ty) where
   abbrev R : Chain
   R = Resample start end step c
 
-  module _ {A E : Type 0} (x : Result A E) (s v : Running) (p w : Vec Running Global) (j : ℕ) (y z : Running) (e : s ≡ Slots p) (g : v ≡ Slots w) (m : w.items ≡ set p.items j z) (k : IsState R us s) where
-    pub part_kept : OnOk x (IsState c us z) → OnOk x (IsState R us v)
-    part_kept h = on_ok x (λ a.
-        are_parts start end step c us v w g (ap length m ∙ length-set p.items j z ∙ (parts_are start end step c us s p e k).0)
-        (subst (Each (IsState c us)) (sym m) (each_set (IsState c us) p.items j z (parts_are start end step c us s p e k).1 a))) h
+  module _ {A E : Type 0} (x : Result A E) (s v : Running) (p w : Vec Running Global) (e : s ≡ Slots p) (g : v ≡ Slots w) (k : IsState R us s) where
+    pub part_kept : OnOk x (Each (IsState c us) w.items × (length w.items ≡ length p.items)) → OnOk x (IsState R us v)
+    part_kept h = on_ok x (λ a. are_parts start end step c us v w g (a.1 ∙ (parts_are start end step c us s p e k).0) a.0) h
 
-    pub part_fed : (r q : List Value) (key : ℤ) → as_key (last Nil r) ≡ Some key → (j < intervals start end step) × (is_inside start end step j key ≡ true) → y ≡ get_or p.items j y → q ≡ front r → OnOk x (Feeds c us q y z) → OnOk x (Feeds R us r s v)
-    part_fed r q key i n l f h = on_ok x (λ a.
+    pub part_fed : (r q : List Value) (j : ℕ) (key : ℤ) → as_key (last Nil r) ≡ Some key → (j < intervals start end step) × (is_inside start end step j key ≡ true) → q ≡ front r → OnOk x (FeedsPart c us q j p.items w.items) → OnOk x (Feeds R us r s v)
+    part_fed r q j key i n f h = on_ok x (λ a.
         subst (λ t. Feeds R us r t v) (sym e) (subst (Feeds R us r (Slots p)) (sym g)
-        (part_takes start end step c us r p w j key y z (parts_are start end step c us s p e k).0 i n.1 n.0 l m (subst (λ t. Feeds c us t y z) f a)))) h
+        (part_takes start end step c us r p w j key a.before a.after (parts_are start end step c us s p e k).0 i n.1 n.0 a.there a.put (subst (λ t. Feeds c us t a.before a.after) f a.row)))) h
 
   -- a row that no interval takes
   pub parts_stay : (r : List Value) (s : Running) → IsState R us s → ((q : ℕ) → in_interval start end step q (opened c (front r), as_key (last Nil r)) ≡ []) → Feeds R us r s s
