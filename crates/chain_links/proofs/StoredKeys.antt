@@ -9,8 +9,7 @@ use Rattle.agg_terms.specs.Order.{compare, into_set}
 use Rattle.agg_terms.specs.Trees.{IsTree}
 use Rattle.agg_terms.specs.Values.{Nil, Tree, Value}
 use Rattle.agg_terms.proofs.Comparing.{compare_order}
-use Rattle.agg_terms.proofs.Sorting.{ranking, up}
-use Rattle.agg_meaning.proofs.LeafTrees.{rising_rest}
+use Rattle.agg_terms.proofs.Sorting.{up}
 use Rattle.agg_meaning.proofs.TreeLaws.{less_apart}
 use Rattle.link_types.specs.Links.{inner_types}
 use Rattle.value_types.specs.declared.value.KeyedTree.{KeyedTree}
@@ -43,6 +42,9 @@ last_above (x ∷ y ∷ ks) k r (suc j) l = last_above (y ∷ ks) k r.1 j (omega
 insert_end : {X : Type 0} (xs : List X) (x : X) → insert xs (length xs) x ≡ xs ++ x ∷ []
 insert_end [] x = refl
 insert_end (y ∷ xs) x = ap (◌∷◌ y) (insert_end xs x)
+
+abbrev entry : Value → Tree → Value × Tree
+entry v t = (v, t)
 
 -- a key put in where it is missing
 pub put_shape : (P : Running → Type 0) (k : Value) (es : List (Valued × Running)) (p : ℕ) (key : Valued) (s : Running) → value_of key ≡ k → IsMissingAt k (keys_in es) p → AreEntries P es → P s → AreEntries P (insert es p (key, s))
@@ -94,7 +96,7 @@ module _ (c : Chain) (us : List Ty) where
       last_place m = go (cases_lt p (length (keys_in es)))
         where
           go : (p < length (keys_in es)) ⊎ (length (keys_in es) ≤ p) → p ≡ length es
-          go (inl q) = absurd (both (sym (m.below p (omega arith) q) ∙ up compare (ranking compare compare_order) (get_or (keys_in es) p Nil) key (above p q)))
+          go (inl q) = absurd (both (sym (m.below p (omega arith) q) ∙ up compare compare_order (get_or (keys_in es) p Nil) key (above p q)))
             where
               both : Less ≡ Greater → ⊥
               both z = cc
@@ -110,6 +112,6 @@ module _ (c : Chain) (us : List Ty) where
           map_insert (λ z. (value_of z.0, tree_in z.1)) es p (own, s)
           ∙ ap (λ q. insert (entries_in es) q (value_of own, tree_in s)) (last_place ts n k r m ∙ sym (length-map {B = Value × Tree} es (λ z. (value_of z.0, tree_in z.1))))
           ∙ insert_end (entries_in es) (value_of own, tree_in s)
-          ∙ ap₂ (λ zs z. zs ++ z ∷ []) (before ts n k r) (ap₂ (λ a b. (a, b)) v (t.over ts n (own_tree ts n k r)))
+          ∙ ap₂ (λ zs z. zs ++ z ∷ []) (before ts n k r) (ap₂ entry v (t.over ts n (own_tree ts n k r)))
           ∙ sym next;
     }
