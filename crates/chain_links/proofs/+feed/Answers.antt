@@ -1,5 +1,6 @@
 -- Answers of the goals that the search leaves open in the cycle of chain_links::feeding::feed.
-use Rattle.std.proofs.Common.{◌≡◌, rules, ◌∷◌, [], map, length, refl, sym, ◌∙◌, w64, w128, to_z, of_z}
+use Rattle.std.proofs.Common.{◌≡◌, rules, ◌∷◌, [], map, length, refl, sym, ◌∙◌, w64, to_z, of_z}
+use Rattle.std.specs.Int.{w128}
 use Rattle.std.proofs.lemmas.List.{length-set}
 use Rattle.agg_meaning.specs.Feeds.{tuples}
 use Rattle.int_leaves.specs.Rows.{argument}
