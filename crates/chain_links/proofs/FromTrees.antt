@@ -1,22 +1,61 @@
 -- The loops that make states of stored trees: one tree more, and all of them.
-use Rattle.std.proofs.Common.{◌≡◌, ℕ, ℤ, ◌+◌, ◌<◌, ◌≤◌, List, [], ◌∷◌, ◌++◌, map, take, length, get_or, sym, ap, ◌∙◌, subst, arith, Vec, Global}
+use Rattle.std.proofs.Common.{◌≡◌, ◌≢◌, ℕ, zero, suc, ℤ, ◌+◌, ◌<◌, ◌≤◌, true, not, List, [], ◌∷◌, ◌++◌, map, take, length, get_or, refl, sym, ap, ◌∙◌, subst, arith, Result, Vec, Global}
+use Rattle.std.specs.Ordering.{is_eq}
+use Rattle.std.specs.Result.{IfOk}
 use Rattle.std.specs.List.{insert}
 use Rattle.std.proofs.lemmas.List.{length-map}
-use Rattle.agg_terms.specs.Chains.{Chain, ForEach, MapOf, Resample, Ty}
+use Rattle.agg_terms.specs.Chains.{Chain, Distinct, ForEach, MapOf, Resample, Ty}
+use Rattle.agg_terms.specs.Lists.{Apart}
+use Rattle.agg_terms.specs.Order.{before_others, compare_rows, firsts}
 use Rattle.agg_terms.specs.Types.{intervals}
-use Rattle.agg_terms.specs.Values.{Tree, Value, keyed_of, slots_of}
+use Rattle.agg_terms.specs.Values.{Tree, Value, keyed_of, rows_of, rows_tree, slots_of}
+use Rattle.agg_terms.proofs.Comparing.{rows_order}
+use Rattle.agg_terms.proofs.Lists.{table_back}
+use Rattle.agg_meaning.proofs.LeafTrees.{each_weaker, filter_all}
+use Rattle.agg_meaning.proofs.TreeLaws.{test_apart}
 use Rattle.value_types.specs.declared.value.KeyedTree.{KeyedTree}
 use Rattle.value_types.specs.declared.value.Tree.{Tree as Stored}
 use Rattle.value_types.specs.declared.value.Value.{Value as Valued}
-use Rattle.value_types.specs.Folds.{entry_of, tree_of, value_of}
+use Rattle.value_types.specs.declared.value.Tree.TheFolds.{fold-roll-KeyedTree}
+use Rattle.value_types.specs.Folds.{entry_of, entry_step, tree_of, tree_step, value_of, value_step}
 use Rattle.running_states.specs.declared.running.Running.{Running}
 use Rattle.running_states.specs.declared.running.Running.TheVariants.{Keyed, Slots}
 use Rattle.running_states.specs.Entries.{IsFoundAt, IsMissingAt, keys_in}
 use Rattle.running_states.specs.Shapes.{AreEntries, IsState}
+use Rattle.running_states.specs.Trees.{tree_in}
 use Rattle.running_states.specs.Words.{HasTree}
+use Rattle.running_states.proofs.Outcomes.{if_ok}
 use Rattle.chain_links.specs.Words.{HasTrees, StoresKeys}
 use Rattle.chain_links.proofs.Stored.{keys_stored, parts_stored, slots_stored, trees_all, trees_more, trees_none}
 use Rattle.chain_links.proofs.StoredKeys.{keys_all, keys_found, keys_missing, keys_none, put_shape}
+
+-- an entry: its key and its tree
+pub entry_parts : (x : KeyedTree) → entry_of x ≡ (value_of x.key, tree_of x.tree)
+entry_parts x = fold-roll-KeyedTree Tree Value (Value × Tree) tree_step value_step entry_step (record { key = x.key; tree = x.tree })
+
+pub entry_key : (x : KeyedTree) → (entry_of x).0 ≡ value_of x.key
+entry_key x = ap (λ (z : Value × Tree). z.0) (entry_parts x)
+
+pub entry_tree : (x : KeyedTree) → (entry_of x).1 ≡ tree_of x.tree
+entry_tree x = ap (λ (z : Value × Tree). z.1) (entry_parts x)
+
+-- what stands at a place, whatever stands in for none
+pub same_there : {X : Type 0} (xs : List X) (i : ℕ) (x y : X) → i < length xs → x ≡ get_or xs i x → y ≡ get_or xs i y → x ≡ y
+same_there [] i x y l e g = absurd (omega arith)
+same_there (z ∷ xs) zero x y l e g = e ∙ sym g
+same_there (z ∷ xs) (suc i) x y l e g = same_there xs i x y (omega arith) e g
+
+-- -Distinct: rows that are apart are their own first ones
+rows_apart : (xs : List (List Value)) → Apart xs → firsts compare_rows xs ≡ xs
+rows_apart [] k = refl
+rows_apart (x ∷ xs) k =
+    ap (before_others compare_rows x) (rows_apart xs k.1)
+    ∙ ap (◌∷◌ x) (filter_all (λ y. not (is_eq (compare_rows x y))) xs (each_weaker (λ y. x ≢ y) (λ y. not (is_eq (compare_rows x y)) ≡ true) (λ y h. ap not (test_apart compare_rows rows_order x y h)) xs k.0))
+
+pub rows_stored : {E : Type 0} (r : Result Running E) (d c : Chain) (us : List Ty) (t : Tree) → d ≡ Distinct c → IfOk r (λ s. tree_in s ≡ rows_tree (firsts compare_rows (rows_of t))) → IfOk r (λ s. HasTree d us t s)
+rows_stored r d c us t e h = if_ok r (λ s g. subst (λ x. HasTree x us t s) (sym e) (record {
+  over = λ ts n k. g ∙ ap (λ z. rows_tree (firsts compare_rows z)) (ap rows_of k.1 ∙ table_back k.0) ∙ ap rows_tree (rows_apart k.0 k.3) ∙ sym k.1;
+})) h
 
 module _ (c : Chain) (us : List Ty) where
   -- -ForEach
