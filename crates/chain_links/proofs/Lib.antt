@@ -2,6 +2,14 @@ pub mod Plain
 pub mod Walked
 pub mod SlotLists
 pub mod FedRows
+pub mod LentRows
 pub mod Parts
+pub mod PartsJoined
+pub mod PartsFed
 pub mod Entries
 pub mod Stored
+pub mod Shaped
+pub mod StoredKeys
+pub mod FromTrees
+pub mod Heights
+pub mod Rooms

@@ -147,3 +147,9 @@ module _ (c : Chain) (us : List Ty) where
     slots_fed r rs n s v p w m l e g h = on_ok x (λ a.
         subst (λ s. Feeds (ForEach c) us r s v) (sym e) (subst (Feeds (ForEach c) us r (Slots p)) (sym g)
         (slots_take c us r p w (subst (λ k. FeedsPlaces c us (tuples r) k p.items w.items) (sym (ap length m ∙ l)) (subst (λ qs. FeedsPlaces c us qs n p.items w.items) (sym m) a))))) h
+
+-- what stands at a place, whatever is said to stand past the last
+pub own_at : {X : Type 0} (xs : List X) (i : ℕ) (x d : X) → i < length xs → x ≡ get_or xs i x → x ≡ get_or xs i d
+own_at [] i x d l e = absurd (omega arith)
+own_at (y ∷ xs) zero x d l e = e
+own_at (y ∷ xs) (suc i) x d l e = own_at xs i x d (omega arith) e

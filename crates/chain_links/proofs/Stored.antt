@@ -30,11 +30,11 @@ next_map f (y ∷ xs) (suc i) x l e = ap (◌∷◌ (f y)) (next_map f xs i x (o
 pub map_next : {X Y : Type 0} (f : X → Y) (xs : List X) (i : ℕ) (x : X) → i < length xs → x ≡ get_or xs i x → map f (take (i + 1) xs) ≡ map f (take i xs) ++ f x ∷ []
 map_next f xs i x l e = let n : i + 1 ≡ suc i = omega arith in ap (λ k. map f (take k xs)) n ∙ next_map f xs i x l e
 
-each_front : {X : Type 0} (P : X → Type 0) (xs ys : List X) → Each P (xs ++ ys) → Each P xs
+pub each_front : {X : Type 0} (P : X → Type 0) (xs ys : List X) → Each P (xs ++ ys) → Each P xs
 each_front P [] ys k = tt
 each_front P (x ∷ xs) ys k = (k.0, each_front P xs ys k.1)
 
-each_back : {X : Type 0} (P : X → Type 0) (xs ys : List X) → Each P (xs ++ ys) → Each P ys
+pub each_back : {X : Type 0} (P : X → Type 0) (xs ys : List X) → Each P (xs ++ ys) → Each P ys
 each_back P [] ys k = k
 each_back P (x ∷ xs) ys k = each_back P xs ys k.1
 

@@ -1,5 +1,5 @@
 -- The words of the links: what a suffix does of lists of trees, of states and of rows.
-use Rattle.std.specs.Prelude.{◌≡◌, ◌<◌, ◌≤◌, ℕ, suc, max, List, [], ◌++◌, map, length, get_or, take, Some}
+use Rattle.std.specs.Prelude.{◌≡◌, ◌<◌, ◌≤◌, ℕ, suc, max, List, [], ◌++◌, map, length, get_or, slice_set, take, Some}
 use Rattle.agg_terms.specs.Chains.{Chain, Ty}
 use Rattle.agg_terms.specs.Lists.{Each, Rising}
 use Rattle.agg_terms.specs.Order.{compare, different, into_set}
@@ -15,7 +15,7 @@ use Rattle.running_states.specs.declared.running.Running.{Running}
 use Rattle.running_states.specs.Entries.{IsFoundAt, entries_in, keys_in}
 use Rattle.running_states.specs.Shapes.{AreEntries, IsState}
 use Rattle.running_states.specs.Trees.{tree_in}
-use Rattle.running_states.specs.Words.{Over}
+use Rattle.running_states.specs.Words.{Feeds, Over}
 
 -- states with these trees
 pub record HasTrees (c : Chain) (us : List Ty) (tt : List Tree) (ss : List Running) : Type 0 where
@@ -38,6 +38,14 @@ pub record IsWalked (R : ℕ → Tree → Tree → Type 0) (b : Tree) (tt : List
 -- the first n rows, each at its place
 pub record FeedsPlaces (c : Chain) (us : List Ty) (rs : List (List Value)) (n : ℕ) (ss vv : List Running) : Type 0 where
   pub over : Over c us (λ ts. IsWalked (λ j t v. Takes c ts (get_or rs j []) t v) (blank c) (map tree_in ss) n (map tree_in vv))
+
+-- a row behind those of the state at a place; every other state is as it was
+pub record FeedsPart (c : Chain) (us : List Ty) (r : List Value) (i : ℕ) (ss vv : List Running) : Type 0 where
+  pub before : Running
+  pub after : Running
+  pub there : before ≡ get_or ss i before
+  pub put : vv ≡ slice_set ss i after
+  pub row : Feeds c us r before after
 
 -- the first n of the later states, each at its place
 pub record JoinsPlaces (c : Chain) (us : List Ty) (ss uu : List Running) (n : ℕ) (vv : List Running) : Type 0 where

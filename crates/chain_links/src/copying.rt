@@ -1,8 +1,10 @@
 //! An equal state.
-ghost use Rattle.std.specs.Prelude.{◌≡◌, map, IfOk};
+ghost use Rattle.std.specs.Prelude.{◌≡◌, length, map, IfOk};
 ghost use Rattle.agg_terms.specs.Lists.{Each};
+ghost use Rattle.agg_terms.specs.Values.{keyed_tree, slots_tree};
 ghost use Rattle.value_types.specs.Folds.{chain_of, ty_of};
-ghost use Rattle.running_states.specs.Shapes.{IsState};
+ghost use Rattle.running_states.specs.Shapes.{AreEntries, AreKeyed, AreParts, IsState};
+ghost use Rattle.running_states.specs.declared.running.Running.TheViews.{out-Running};
 ghost use Rattle.running_states.specs.Trees.{tree_in};
 ghost use Rattle.running_states.specs.Entries.{entries_in};
 
@@ -32,27 +34,18 @@ pub fn copy(
         Chain::If(of) => copy(of.get(), alloc, types, state),
         Chain::Array(of) => copy(of.get(), alloc, types, state),
         Chain::MapOf(of) => match state {
-            Running::Keyed(entries) => {
-                let copied = copy_entries(of.get(), alloc, types, entries.as_slice())?;
-                Ok(Running::Keyed(copied))
-            }
+            Running::Keyed(entries) => copy_entries(of.get(), alloc, types, entries.as_slice()),
             _ => unreachable!(),
         },
         Chain::ForEach(of) => match state {
-            Running::Slots(slots) => {
-                let copied = copy_slots(of.get(), alloc, types, slots.as_slice())?;
-                Ok(Running::Slots(copied))
-            }
+            Running::Slots(slots) => copy_slots(of.get(), alloc, types, slots.as_slice()),
             _ => unreachable!(),
         },
         Chain::OrNull(of) => copy(of.get(), alloc, types, state),
         Chain::OrDefault(of) => copy(of.get(), alloc, types, state),
         Chain::Distinct(_) => copy_first(alloc, state),
         Chain::Resample(_, _, _, of) => match state {
-            Running::Slots(parts) => {
-                let copied = copy_slots(of.get(), alloc, types, parts.as_slice())?;
-                Ok(Running::Slots(copied))
-            }
+            Running::Slots(parts) => copy_slots(of.get(), alloc, types, parts.as_slice()),
             _ => unreachable!(),
         },
         Chain::State(of) => copy(of.get(), alloc, types, state),
@@ -60,41 +53,43 @@ pub fn copy(
     }
 }
 
-/// The same slots again.
+/// A state with the same slots.
 #[cycle(copy)]
+#[tactic(auto, using(running_states::proofs::Layers::slot_laws))]
 fn copy_slots(
     of: &Chain,
     alloc: Global,
     types: &[Ty],
     slots: &[Running],
-) -> Result<Vec<Running>, OutOfMemory>
+) -> Result<Running, OutOfMemory>
     requires { Each (IsState (chain_of of.now) (map ty_of types.now)) slots.now }
-    ensures shape { IfOk result (λ all. Each (IsState (chain_of of.now) (map ty_of types.now)) all.items) }
-    ensures tree { IfOk result (λ all. map tree_in all.items ≡ map tree_in slots.now) }
+    ensures shape { IfOk result (λ s. AreParts (length slots.now) (IsState (chain_of of.now) (map ty_of types.now)) (out-Running s)) }
+    ensures tree { IfOk result (λ s. tree_in s ≡ slots_tree (map tree_in slots.now)) }
 {
     let mut all = Vec::with_capacity(alloc, slots.len())?;
     for i in 0..slots.len() {
         all.push(copy(of, alloc, types, &slots[i])?)?;
     }
-    Ok(all)
+    Ok(Running::Slots(all))
 }
 
-/// The same entries again.
+/// A state with the same entries.
 #[cycle(copy)]
+#[tactic(auto, using(running_states::proofs::Layers::key_laws))]
 fn copy_entries(
     of: &Chain,
     alloc: Global,
     types: &[Ty],
     entries: &[(Value, Running)],
-) -> Result<Vec<(Value, Running)>, OutOfMemory>
-    requires { Each (λ e. IsState (chain_of of.now) (map ty_of types.now) e.1) entries.now }
-    ensures shape { IfOk result (λ all. Each (λ e. IsState (chain_of of.now) (map ty_of types.now) e.1) all.items) }
-    ensures tree { IfOk result (λ all. entries_in all.items ≡ entries_in entries.now) }
+) -> Result<Running, OutOfMemory>
+    requires { AreEntries (IsState (chain_of of.now) (map ty_of types.now)) entries.now }
+    ensures shape { IfOk result (λ s. AreKeyed (IsState (chain_of of.now) (map ty_of types.now)) (out-Running s)) }
+    ensures tree { IfOk result (λ s. tree_in s ≡ keyed_tree (entries_in entries.now)) }
 {
     let mut all = Vec::with_capacity(alloc, entries.len())?;
     for i in 0..entries.len() {
         let key = entries[i].0.copy(alloc)?;
         all.push((key, copy(of, alloc, types, &entries[i].1)?))?;
     }
-    Ok(all)
+    Ok(Running::Keyed(all))
 }

@@ -16,13 +16,12 @@ ghost use Rattle.running_states.specs.Shapes.{AreParts, IsState};
 ghost use Rattle.running_states.specs.declared.running.Running.TheViews.{out-Running};
 ghost use Rattle.running_states.specs.Trees.{tree_in};
 ghost use Rattle.running_states.specs.Words.{Feeds, JoinsAll};
-ghost use Rattle.chain_links.specs.Words.{HasTrees};
+ghost use Rattle.chain_links.specs.Words.{FeedsPart};
 
 use crate::feeding::feed;
 use crate::places::merge_slots;
 use crate::starting::fresh;
-use crate::storing::from_tree;
-use row_parts::{front, last_key};
+use row_parts::{front, interval_of, last_key};
 use running_states::Running;
 use std::alloc::Global;
 use typed_columns::Item;
@@ -71,13 +70,34 @@ pub fn feed_interval(
     match last_key(row) {
         Some(key) => match interval_of(start, end, step, key) {
             Some(place) => match state {
-                Running::Slots(parts) => feed(of, alloc, types, &mut parts[place], front(row)),
+                Running::Slots(parts) => feed_part(of, alloc, types, parts, place, front(row)),
                 _ => unreachable!(),
             },
             None => Ok(()),
         },
         None => Ok(()),
     }
+}
+
+/// Adds a row to the state of an interval.
+#[cycle(feed)]
+fn feed_part(
+    of: &Chain,
+    alloc: Global,
+    types: &[Ty],
+    parts: &mut Vec<Running>,
+    place: usize,
+    row: &[Item<'_>],
+) -> Result<(), OutOfMemory>
+    requires sound { IsSound (chain_of of.now) }
+    requires served { is_served (function_of (chain_of of.now)) (map ty_of types.now) ≡ true }
+    requires shape { Each (IsState (chain_of of.now) (map ty_of types.now)) parts.old.items }
+    requires within { place < length parts.old.items }
+    requires few { length row.now ≤ 64 }
+    ensures shape { OnOk result (Each (IsState (chain_of of.now) (map ty_of types.now)) parts.new.items × (length parts.new.items ≡ length parts.old.items)) }
+    ensures row { OnOk result (FeedsPart (chain_of of.now) (map ty_of types.now) (arguments row.now) place parts.old.items parts.new.items) }
+{
+    feed(of, alloc, types, &mut parts[place], row)
 }
 
 /// Joins the rows of each interval behind.
@@ -107,30 +127,4 @@ pub fn merge_intervals(
         },
         _ => unreachable!(),
     }
-}
-
-/// The states with these trees, one for each interval; past the last tree one of no rows.
-#[cycle(from_tree)]
-pub fn parts_from_trees(
-    of: &Chain,
-    alloc: Global,
-    types: &[Ty],
-    trees: &[Tree],
-    count: usize,
-) -> Result<Vec<Running>, OutOfMemory>
-    requires sound { IsSound (chain_of of.now) }
-    requires served { is_served (function_of (chain_of of.now)) (map ty_of types.now) ≡ true }
-    ensures shape { IfOk result (λ all. Each (IsState (chain_of of.now) (map ty_of types.now)) all.items) }
-    ensures count { IfOk result (λ all. length all.items ≡ count) }
-    ensures tree { IfOk result (λ all. count ≡ length trees.now → HasTrees (chain_of of.now) (map ty_of types.now) (map tree_of trees.now) all.items) }
-{
-    let mut all = Vec::new(alloc);
-    for i in 0..count {
-        if i < trees.len() {
-            all.push(from_tree(of, alloc, types, &trees[i])?)?;
-        } else {
-            all.push(fresh(of, alloc, types)?)?;
-        }
-    }
-    Ok(all)
 }

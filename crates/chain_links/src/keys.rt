@@ -24,6 +24,7 @@ use typed_columns::{Item, PairSpan};
 use value_types::{Chain, OutOfMemory, Ty, Value};
 
 /// The place of a key, with a state of no rows where there was none.
+#[tactic(auto, using(crate::proofs::Rooms::entry_laws))]
 fn place_for(
     of: &Chain,
     alloc: Global,

@@ -23,6 +23,7 @@ use typed_columns::{Args, Item, Span};
 use value_types::{Chain, OutOfMemory, Ty};
 
 /// Adds a state of no rows where the place is the first without one.
+#[tactic(auto, using(crate::proofs::Rooms::room_laws))]
 pub fn make_room(
     of: &Chain,
     alloc: Global,

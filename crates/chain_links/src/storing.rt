@@ -1,16 +1,15 @@
 //! A state from the tree that was stored.
 ghost use Rattle.std.specs.Prelude.{◌≡◌, map, true, IfOk};
-ghost use Rattle.agg_terms.specs.Lists.{Each};
+ghost use Rattle.agg_terms.specs.Chains.{ForEach, MapOf, Resample};
 ghost use Rattle.agg_terms.specs.Values.{keyed_of, slots_of};
 ghost use Rattle.agg_meaning.specs.Lawful.{IsSound};
 ghost use Rattle.agg_typing.specs.Legal.{function_of};
 ghost use Rattle.value_types.specs.Folds.{chain_of, entry_of, tree_of, ty_of};
 ghost use Rattle.running_states.specs.Served.{is_served};
-ghost use Rattle.running_states.specs.Shapes.{AreEntries, IsState};
+ghost use Rattle.running_states.specs.Shapes.{IsState};
 ghost use Rattle.running_states.specs.Words.{HasTree};
-ghost use Rattle.chain_links.specs.Words.{HasTrees, StoresKeys};
 
-use crate::intervals::parts_from_trees;
+use crate::starting::fresh;
 use row_parts::count_intervals;
 use running_states::{Running, first_from_tree, leaf_from_tree, place_of_value};
 use std::alloc::Global;
@@ -38,21 +37,13 @@ pub fn from_tree(
         Chain::Leaf(leaf) => leaf_from_tree(leaf, alloc, types, tree),
         Chain::If(of) => from_tree(of.get(), alloc, types, tree),
         Chain::Array(of) => from_tree(of.get(), alloc, types, tree),
-        Chain::MapOf(of) => {
-            let entries = entries_from(of.get(), alloc, types, entries_in_tree(tree))?;
-            Ok(Running::Keyed(entries))
-        }
-        Chain::ForEach(of) => {
-            let slots = all_from_trees(of.get(), alloc, types, slots_in_tree(tree))?;
-            Ok(Running::Slots(slots))
-        }
+        Chain::MapOf(of) => keys_from(of.get(), alloc, types, tree),
+        Chain::ForEach(of) => slots_from(of.get(), alloc, types, tree),
         Chain::OrNull(of) => from_tree(of.get(), alloc, types, tree),
         Chain::OrDefault(of) => from_tree(of.get(), alloc, types, tree),
         Chain::Distinct(_) => first_from_tree(alloc, tree),
         Chain::Resample(start, end, step, of) => {
-            let count = count_intervals(*start, *end, *step);
-            let parts = parts_from_trees(of.get(), alloc, types, slots_in_tree(tree), count)?;
-            Ok(Running::Slots(parts))
+            parts_from(*start, *end, *step, of.get(), alloc, types, tree)
         }
         Chain::State(of) => from_tree(of.get(), alloc, types, tree),
         Chain::Merge(of) => from_tree(of.get(), alloc, types, tree),
@@ -70,24 +61,51 @@ fn slots_in_tree(tree: &Tree) -> &[Tree]
     }
 }
 
-/// The states with these trees.
+/// The state of -ForEach with the slots of a tree.
 #[cycle(from_tree)]
-fn all_from_trees(
-    of: &Chain,
-    alloc: Global,
-    types: &[Ty],
-    trees: &[Tree],
-) -> Result<Vec<Running>, OutOfMemory>
+#[tactic(auto, using(running_states::proofs::Layers::slot_laws, crate::proofs::FromTrees::slots_laws))]
+fn slots_from(of: &Chain, alloc: Global, types: &[Ty], tree: &Tree) -> Result<Running, OutOfMemory>
     requires sound { IsSound (chain_of of.now) }
     requires served { is_served (function_of (chain_of of.now)) (map ty_of types.now) ≡ true }
-    ensures shape { IfOk result (λ all. Each (IsState (chain_of of.now) (map ty_of types.now)) all.items) }
-    ensures tree { IfOk result (λ all. HasTrees (chain_of of.now) (map ty_of types.now) (map tree_of trees.now) all.items) }
+    ensures shape { IfOk result (λ s. IsState (ForEach (chain_of of.now)) (map ty_of types.now) s) }
+    ensures tree { IfOk result (λ s. HasTree (ForEach (chain_of of.now)) (map ty_of types.now) (tree_of tree.now) s) }
 {
+    let trees = slots_in_tree(tree);
     let mut all = Vec::new(alloc);
     for i in 0..trees.len() {
         all.push(from_tree(of, alloc, types, &trees[i])?)?;
     }
-    Ok(all)
+    Ok(Running::Slots(all))
+}
+
+/// The state of -Resample with the slots of a tree, one for each interval; past the last slot one of no rows.
+#[cycle(from_tree)]
+#[tactic(auto, using(running_states::proofs::Layers::slot_laws, crate::proofs::FromTrees::parts_laws))]
+fn parts_from(
+    start: i64,
+    end: i64,
+    step: u64,
+    of: &Chain,
+    alloc: Global,
+    types: &[Ty],
+    tree: &Tree,
+) -> Result<Running, OutOfMemory>
+    requires sound { IsSound (Resample start end step (chain_of of.now)) }
+    requires served { is_served (function_of (chain_of of.now)) (map ty_of types.now) ≡ true }
+    ensures shape { IfOk result (λ s. IsState (Resample start end step (chain_of of.now)) (map ty_of types.now) s) }
+    ensures tree { IfOk result (λ s. HasTree (Resample start end step (chain_of of.now)) (map ty_of types.now) (tree_of tree.now) s) }
+{
+    let count = count_intervals(start, end, step);
+    let trees = slots_in_tree(tree);
+    let mut all = Vec::new(alloc);
+    for i in 0..count {
+        if i >= trees.len() {
+            all.push(fresh(of, alloc, types)?)?;
+            continue;
+        }
+        all.push(from_tree(of, alloc, types, &trees[i])?)?;
+    }
+    Ok(Running::Slots(all))
 }
 
 /// The entries of a tree.
@@ -101,25 +119,23 @@ fn entries_in_tree(tree: &Tree) -> &[KeyedTree]
     }
 }
 
-/// The entries with these trees, each at its key; of two at one key the first.
+/// The state of -Map with the entries of a tree, each at its key; of two at one key the first.
 #[cycle(from_tree)]
-fn entries_from(
-    of: &Chain,
-    alloc: Global,
-    types: &[Ty],
-    stored: &[KeyedTree],
-) -> Result<Vec<(Value, Running)>, OutOfMemory>
+#[tactic(auto, using(running_states::proofs::Layers::key_laws, crate::proofs::FromTrees::keys_laws))]
+fn keys_from(of: &Chain, alloc: Global, types: &[Ty], tree: &Tree) -> Result<Running, OutOfMemory>
     requires sound { IsSound (chain_of of.now) }
     requires served { is_served (function_of (chain_of of.now)) (map ty_of types.now) ≡ true }
-    ensures shape { IfOk result (λ all. AreEntries (IsState (chain_of of.now) (map ty_of types.now)) all.items) }
-    ensures tree { IfOk result (λ all. StoresKeys (chain_of of.now) (map ty_of types.now) (map entry_of stored.now) all.items) }
+    ensures shape { IfOk result (λ s. IsState (MapOf (chain_of of.now)) (map ty_of types.now) s) }
+    ensures tree { IfOk result (λ s. HasTree (MapOf (chain_of of.now)) (map ty_of types.now) (tree_of tree.now) s) }
 {
+    let stored = entries_in_tree(tree);
     let mut all = Vec::new(alloc);
     for i in 0..stored.len() {
-        if let Err(place) = place_of_value(all.as_slice(), &stored[i].key) {
-            let state = from_tree(of, alloc, types, &stored[i].tree)?;
-            all.insert(place, (stored[i].key.copy(alloc)?, state))?;
-        }
+        let Err(place) = place_of_value(all.as_slice(), &stored[i].key) else {
+            continue;
+        };
+        let key = stored[i].key.copy(alloc)?;
+        all.insert(place, (key, from_tree(of, alloc, types, &stored[i].tree)?))?;
     }
-    Ok(all)
+    Ok(Running::Keyed(all))
 }

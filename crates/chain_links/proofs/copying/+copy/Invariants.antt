@@ -1,4 +1,4 @@
--- Measures and loop invariants of the cycle of chain_links::copying::copy.
+-- Measures and loop invariants of chain_links::copying::copy.
 use Rattle.std.proofs.Common.{◌≡◌, map, take}
 use Rattle.agg_terms.specs.Lists.{Each}
 use Rattle.value_types.specs.Folds.{chain_of, ty_of}
