@@ -14,30 +14,27 @@ use Rattle.chain_values.proofs.+value_over.Goals as goal
 
 pub inward::value_when_met-value_over-requires : goal.inward::value_when_met-value_over-requires
 inward::value_when_met-value_over-requires t c =
-    (search rules, legal_if (chain_of c.args.of.now) (map ty_of c.args.types.now) (map ty_of c.front_types.result.now) c.front_types.ensures c.requires.legal, function_if (chain_of c.args.of.now) (map ty_of c.args.types.now) (map ty_of c.front_types.result.now) (map ty_of c.args.function.now) c.front_types.ensures c.requires.function, c.requires.shape)
+    (search rules, (legal_if (chain_of c.args.of.now) (map ty_of c.args.types.now) (map ty_of c.front_types.result.now) c.front_types.ensures c.requires.legal, (function_if (chain_of c.args.of.now) (map ty_of c.args.types.now) (map ty_of c.front_types.result.now) (map ty_of c.args.function.now) c.front_types.ensures c.requires.function, c.requires.shape)))
 
 pub inward::value_of_elements-value_over-requires : goal.inward::value_of_elements-value_over-requires
 inward::value_of_elements-value_over-requires t c =
     let e : map ty_of c.as_slice.result.now ≡ inward (Array (chain_of c.args.of.now)) (map ty_of c.args.types.now) = search rules in
-    (search rules, legal_array (chain_of c.args.of.now) (map ty_of c.args.types.now) (map ty_of c.as_slice.result.now) e c.requires.legal, function_array (chain_of c.args.of.now) (map ty_of c.args.types.now) (map ty_of c.as_slice.result.now) (map ty_of c.args.function.now) e c.requires.function, c.requires.shape)
+    (search rules, (legal_array (chain_of c.args.of.now) (map ty_of c.args.types.now) (map ty_of c.as_slice.result.now) e c.requires.legal, (function_array (chain_of c.args.of.now) (map ty_of c.args.types.now) (map ty_of c.as_slice.result.now) (map ty_of c.args.function.now) e c.requires.function, c.requires.shape)))
 
 pub inward::value_of_states-value_over-requires : goal.inward::value_of_states-value_over-requires
 inward::value_of_states-value_over-requires t c =
-    (search rules, legal_merge (chain_of c.args.of.now) (map ty_of c.args.types.now) (map ty_of c.args.inner.now) c.requires.inner c.requires.legal, function_merge (chain_of c.args.of.now) (map ty_of c.args.types.now) (map ty_of c.args.inner.now) (map ty_of c.args.function.now) c.requires.inner c.requires.function, c.requires.shape)
+    (search rules, (legal_merge (chain_of c.args.of.now) (map ty_of c.args.types.now) (map ty_of c.args.inner.now) c.requires.inner c.requires.legal, (function_merge (chain_of c.args.of.now) (map ty_of c.args.types.now) (map ty_of c.args.inner.now) (map ty_of c.args.function.now) c.requires.inner c.requires.function, c.requires.shape)))
 
 pub keys::value_at_keys-pairs_of-requires : goal.keys::value_at_keys-pairs_of-requires
 keys::value_at_keys-pairs_of-requires t c =
     let e : map ty_of c.as_slice.result.now ≡ inward (MapOf (chain_of c.args.of.now)) (map ty_of c.args.types.now) = search rules in
-    (search rules, legal_map (chain_of c.args.of.now) (map ty_of c.args.types.now) (map ty_of c.as_slice.result.now) e c.requires.legal, function_map (chain_of c.args.of.now) (map ty_of c.args.types.now) (map ty_of c.as_slice.result.now) (map ty_of c.args.function.now) e c.requires.function,
-      subst (Each (λ e. IsState (chain_of c.args.of.now) (map ty_of c.args.function.now) e.1)) (sym c.as_slice-in-Keyed.ensures.value) (keys_here (chain_of c.args.of.now) c.args.state.now c.in-Keyed.entries c.in-Keyed.is (map ty_of c.args.function.now) c.requires.shape))
+    (search rules, (legal_map (chain_of c.args.of.now) (map ty_of c.args.types.now) (map ty_of c.as_slice.result.now) e c.requires.legal, (function_map (chain_of c.args.of.now) (map ty_of c.args.types.now) (map ty_of c.as_slice.result.now) (map ty_of c.args.function.now) e c.requires.function, subst (Each (λ e. IsState (chain_of c.args.of.now) (map ty_of c.args.function.now) e.1)) (sym c.as_slice-in-Keyed.ensures.value) (keys_here (chain_of c.args.of.now) c.args.state.now c.in-Keyed.entries c.in-Keyed.is (map ty_of c.args.function.now) c.requires.shape))))
 
 pub slots::value_of_slots-values_of-requires : goal.slots::value_of_slots-values_of-requires
 slots::value_of_slots-values_of-requires t c =
     let e : map ty_of c.as_slice.result.now ≡ inward (ForEach (chain_of c.args.of.now)) (map ty_of c.args.types.now) = search rules in
-    (search rules, legal_for_each (chain_of c.args.of.now) (map ty_of c.args.types.now) (map ty_of c.as_slice.result.now) e c.requires.legal, function_for_each (chain_of c.args.of.now) (map ty_of c.args.types.now) (map ty_of c.as_slice.result.now) (map ty_of c.args.function.now) e c.requires.function,
-      subst (Each (IsState (chain_of c.args.of.now) (map ty_of c.args.function.now))) (sym c.as_slice-in-Slots.ensures.value) (slots_here (chain_of c.args.of.now) c.args.state.now c.in-Slots.slots c.in-Slots.is (map ty_of c.args.function.now) c.requires.shape))
+    (search rules, (legal_for_each (chain_of c.args.of.now) (map ty_of c.args.types.now) (map ty_of c.as_slice.result.now) e c.requires.legal, (function_for_each (chain_of c.args.of.now) (map ty_of c.args.types.now) (map ty_of c.as_slice.result.now) (map ty_of c.args.function.now) e c.requires.function, subst (Each (IsState (chain_of c.args.of.now) (map ty_of c.args.function.now))) (sym c.as_slice-in-Slots.ensures.value) (slots_here (chain_of c.args.of.now) c.args.state.now c.in-Slots.slots c.in-Slots.is (map ty_of c.args.function.now) c.requires.shape))))
 
 pub slots::value_of_parts-values_of-requires : goal.slots::value_of_parts-values_of-requires
 slots::value_of_parts-values_of-requires t c =
-    (search rules, legal_resample (chain_of c.args.of.now) (map ty_of c.args.types.now) (map ty_of c.front_types.result.now) c.args.start c.args.end c.args.step c.front_types.ensures c.requires.legal, function_resample c.args.start c.args.end c.args.step (chain_of c.args.of.now) (map ty_of c.args.types.now) (map ty_of c.front_types.result.now) (map ty_of c.args.function.now) c.front_types.ensures c.requires.function,
-      subst (Each (IsState (chain_of c.args.of.now) (map ty_of c.args.function.now))) (sym c.as_slice.ensures.value) (parts_here c.args.start c.args.end c.args.step (chain_of c.args.of.now) (map ty_of c.args.function.now) c.args.state.now c.in-Slots.parts c.in-Slots.is c.requires.shape))
+    (search rules, (legal_resample (chain_of c.args.of.now) (map ty_of c.args.types.now) (map ty_of c.front_types.result.now) c.args.start c.args.end c.args.step c.front_types.ensures c.requires.legal, (function_resample c.args.start c.args.end c.args.step (chain_of c.args.of.now) (map ty_of c.args.types.now) (map ty_of c.front_types.result.now) (map ty_of c.args.function.now) c.front_types.ensures c.requires.function, subst (Each (IsState (chain_of c.args.of.now) (map ty_of c.args.function.now))) (sym c.as_slice.ensures.value) (parts_here c.args.start c.args.end c.args.step (chain_of c.args.of.now) (map ty_of c.args.function.now) c.args.state.now c.in-Slots.parts c.in-Slots.is c.requires.shape))))
