@@ -37,7 +37,7 @@ use Rattle.running_states.specs.Shapes.{AreEntries, AreKeyed, IsState, key_in}
 use Rattle.running_states.specs.Trees.{tree_in}
 use Rattle.running_states.specs.Words.{Feeds, JoinsAll}
 use Rattle.running_states.specs.Entries.{IsFoundAt, IsMissingAt, entries_in, keys_in}
-use Rattle.chain_links.specs.Words.{FeedsKeys, HasEntry, JoinsKeys}
+use Rattle.chain_links.specs.proving.Words.{FeedsKeys, HasEntry, JoinsKeys}
 use Rattle.running_states.proofs.KeyOrder.{compare_full, set_found, set_missing, set_rises}
 use Rattle.running_states.proofs.Layers.{out_Keyed, tree_Keyed}
 use Rattle.running_states.proofs.Outcomes.{on_ok}

@@ -15,7 +15,7 @@ use Rattle.running_states.specs.declared.running.Running.{Running}
 use Rattle.row_parts.specs.Rows.{is_met}
 use Rattle.running_states.specs.Trees.{tree_in}
 use Rattle.running_states.specs.Words.{Feeds, HasTree, JoinsAll}
-use Rattle.chain_links.specs.Words.{FeedsAll, FeedsTree}
+use Rattle.chain_links.specs.proving.Words.{FeedsAll, FeedsTree}
 use Rattle.running_states.proofs.Outcomes.{on_ok}
 
 met : {X : Type 0} (x : X) (o : Option ℕ) → is_met o ≡ true → when_met (x, o) ≡ x ∷ []

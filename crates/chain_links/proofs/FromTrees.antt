@@ -25,7 +25,7 @@ use Rattle.running_states.specs.Shapes.{AreEntries, IsState}
 use Rattle.running_states.specs.Trees.{tree_in}
 use Rattle.running_states.specs.Words.{HasTree}
 use Rattle.running_states.proofs.Outcomes.{if_ok}
-use Rattle.chain_links.specs.Words.{HasTrees, StoresKeys}
+use Rattle.chain_links.specs.proving.Words.{HasTrees, StoresKeys}
 use Rattle.chain_links.proofs.Stored.{keys_stored, parts_stored, slots_stored, trees_all, trees_more, trees_none}
 use Rattle.chain_links.proofs.StoredKeys.{keys_all, keys_found, keys_missing, keys_none, put_shape}
 

@@ -21,7 +21,7 @@ use Rattle.link_types.specs.Links.{inner_types}
 use Rattle.running_states.specs.Shapes.{AreParts, IsState}
 use Rattle.running_states.specs.Trees.{tree_in}
 use Rattle.running_states.specs.Words.{Feeds, JoinsAll}
-use Rattle.chain_links.specs.Words.{IsWalked, JoinsPlaces}
+use Rattle.chain_links.specs.proving.Words.{IsWalked, JoinsPlaces}
 use Rattle.row_parts.proofs.IntervalPlaces.{inside_one}
 use Rattle.running_states.proofs.Layers.{out_Slots, tree_Slots}
 use Rattle.running_states.proofs.Outcomes.{on_ok}

@@ -13,7 +13,7 @@ use Rattle.running_states.specs.declared.running.Running.TheVariants.{Slots, rol
 use Rattle.running_states.specs.declared.running.Running.TheViews.{out-Running, roll-Running, roll-out-Running}
 use Rattle.running_states.specs.Shapes.{AreParts, IsState}
 use Rattle.running_states.specs.Words.{Feeds}
-use Rattle.chain_links.specs.Words.{FeedsPart}
+use Rattle.chain_links.specs.proving.Words.{FeedsPart}
 use Rattle.running_states.proofs.Outcomes.{on_ok}
 use Rattle.chain_links.proofs.Parts.{are_parts, part_leaves, part_takes, parts_are}
 

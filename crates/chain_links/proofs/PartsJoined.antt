@@ -7,7 +7,7 @@ use Rattle.running_states.specs.declared.running.Running.TheVariants.{Slots}
 use Rattle.running_states.specs.Shapes.{IsState}
 use Rattle.running_states.specs.Words.{JoinsAll}
 use Rattle.running_states.proofs.Outcomes.{on_ok}
-use Rattle.chain_links.specs.Words.{JoinsPlaces}
+use Rattle.chain_links.specs.proving.Words.{JoinsPlaces}
 use Rattle.chain_links.proofs.Parts.{parts_are, parts_join}
 
 module _ (start end : ℤ) (step : ℕ) (c : Chain) (us : List Ty) where

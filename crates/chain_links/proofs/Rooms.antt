@@ -10,7 +10,7 @@ use Rattle.running_states.specs.declared.running.Running.{Running}
 use Rattle.running_states.specs.Entries.{IsFoundAt, IsMissingAt, IsPlaceOf, keys_in}
 use Rattle.running_states.specs.Shapes.{AreEntries, IsState}
 use Rattle.running_states.specs.Trees.{tree_in}
-use Rattle.chain_links.specs.Words.{HasEntry, HasRoom}
+use Rattle.chain_links.specs.proving.Words.{HasEntry, HasRoom}
 use Rattle.chain_links.proofs.Entries.{entry_made, entry_there}
 use Rattle.chain_links.proofs.SlotLists.{room_made, room_there}
 

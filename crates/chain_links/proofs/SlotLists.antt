@@ -18,7 +18,7 @@ use Rattle.link_types.specs.Links.{inner_types}
 use Rattle.running_states.specs.Shapes.{AreSlots, IsState}
 use Rattle.running_states.specs.Trees.{tree_in}
 use Rattle.running_states.specs.Words.{Feeds, JoinsAll, Over}
-use Rattle.chain_links.specs.Words.{FeedsPlaces, HasRoom, IsWalked, JoinsPlaces}
+use Rattle.chain_links.specs.proving.Words.{FeedsPlaces, HasRoom, IsWalked, JoinsPlaces}
 use Rattle.running_states.proofs.Layers.{out_Slots, tree_Slots}
 use Rattle.running_states.proofs.Outcomes.{on_ok}
 use Rattle.chain_links.proofs.Walked.{walk_more, walk_none, walked_joins, walked_takes}

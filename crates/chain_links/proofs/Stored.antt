@@ -18,7 +18,7 @@ use Rattle.running_states.specs.Shapes.{IsState}
 use Rattle.running_states.specs.Trees.{tree_in}
 use Rattle.running_states.specs.Words.{HasTree}
 use Rattle.running_states.specs.Entries.{entries_in}
-use Rattle.chain_links.specs.Words.{HasTrees, StoresKeys}
+use Rattle.chain_links.specs.proving.Words.{HasTrees, StoresKeys}
 use Rattle.running_states.proofs.Layers.{tree_Keyed, tree_Slots}
 
 -- one element more

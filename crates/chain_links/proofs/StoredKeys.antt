@@ -21,7 +21,7 @@ use Rattle.running_states.specs.Shapes.{AreEntries, key_in}
 use Rattle.running_states.specs.Trees.{tree_in}
 use Rattle.running_states.specs.Words.{HasTree}
 use Rattle.running_states.proofs.KeyOrder.{set_missing, set_rises}
-use Rattle.chain_links.specs.Words.{StoresKeys}
+use Rattle.chain_links.specs.proving.Words.{StoresKeys}
 use Rattle.chain_links.proofs.Entries.{each_insert, map_insert}
 use Rattle.chain_links.proofs.Shaped.{keys_listed}
 use Rattle.chain_links.proofs.Stored.{each_back, each_front, map_next}

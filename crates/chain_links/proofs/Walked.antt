@@ -17,7 +17,7 @@ use Rattle.agg_meaning.proofs.Places.{get_or-past}
 use Rattle.agg_meaning.proofs.Slots.{for_each_joins, for_each_takes}
 use Rattle.agg_meaning.proofs.Suffixed.{takes_none}
 use Rattle.std.proofs.Common.{◌++◌, append-nil}
-use Rattle.chain_links.specs.Words.{IsWalked}
+use Rattle.chain_links.specs.proving.Words.{IsWalked}
 
 -- no step yet, and one step more at a place that there is
 pub walk_none : (R : ℕ → Tree → Tree → Type 0) (b : Tree) (tt : List Tree) → IsWalked R b tt 0 tt

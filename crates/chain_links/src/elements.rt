@@ -11,7 +11,7 @@ ghost use Rattle.row_parts.specs.Rows.{arguments, element_rows};
 ghost use Rattle.running_states.specs.Served.{is_served};
 ghost use Rattle.running_states.specs.Shapes.{IsState};
 ghost use Rattle.running_states.specs.Words.{Feeds};
-ghost use Rattle.chain_links.specs.Words.{FeedsAll};
+ghost use Rattle.chain_links.specs.proving.Words.{FeedsAll};
 
 use crate::feeding::feed;
 use row_parts::{count_tuples, lend_tuple, lone_list};

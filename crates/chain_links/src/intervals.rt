@@ -16,7 +16,7 @@ ghost use Rattle.running_states.specs.Shapes.{AreParts, IsState};
 ghost use Rattle.running_states.specs.declared.running.Running.TheViews.{out-Running};
 ghost use Rattle.running_states.specs.Trees.{tree_in};
 ghost use Rattle.running_states.specs.Words.{Feeds, JoinsAll};
-ghost use Rattle.chain_links.specs.Words.{FeedsPart};
+ghost use Rattle.chain_links.specs.proving.Words.{FeedsPart};
 
 use crate::feeding::feed;
 use crate::places::merge_slots;

@@ -12,7 +12,7 @@ ghost use Rattle.running_states.specs.Served.{is_served};
 ghost use Rattle.running_states.specs.Shapes.{AreEntries, IsState};
 ghost use Rattle.running_states.specs.Words.{Feeds, JoinsAll};
 ghost use Rattle.running_states.specs.Entries.{IsPlaceOf, keys_in};
-ghost use Rattle.chain_links.specs.Words.{FeedsKeys, HasEntry, JoinsKeys};
+ghost use Rattle.chain_links.specs.proving.Words.{FeedsKeys, HasEntry, JoinsKeys};
 
 use crate::feeding::feed;
 use crate::merging::merge;

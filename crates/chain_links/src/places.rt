@@ -11,7 +11,7 @@ ghost use Rattle.row_parts.specs.Rows.{arguments, element_rows};
 ghost use Rattle.running_states.specs.Served.{is_served};
 ghost use Rattle.running_states.specs.Shapes.{IsState};
 ghost use Rattle.running_states.specs.Words.{Feeds, JoinsAll};
-ghost use Rattle.chain_links.specs.Words.{FeedsPlaces, HasRoom, JoinsPlaces};
+ghost use Rattle.chain_links.specs.proving.Words.{FeedsPlaces, HasRoom, JoinsPlaces};
 
 use crate::feeding::feed;
 use crate::merging::merge;

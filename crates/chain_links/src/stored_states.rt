@@ -9,7 +9,7 @@ ghost use Rattle.row_parts.specs.Rows.{arguments};
 ghost use Rattle.running_states.specs.Served.{is_served};
 ghost use Rattle.running_states.specs.Shapes.{IsState};
 ghost use Rattle.running_states.specs.Words.{Feeds};
-ghost use Rattle.chain_links.specs.Words.{FeedsTree};
+ghost use Rattle.chain_links.specs.proving.Words.{FeedsTree};
 
 use crate::merging::merge;
 use crate::storing::from_tree;

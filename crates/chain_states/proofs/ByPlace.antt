@@ -22,10 +22,10 @@ use Rattle.value_types.specs.declared.value.Value.TheVariants as value
 use Rattle.running_states.specs.declared.running.Running.{Running}
 use Rattle.running_states.specs.Trees as links
 use Rattle.running_states.specs.Words.{Feeds}
-use Rattle.chain_links.specs.Words.{FeedsAll}
+use Rattle.chain_links.specs.proving.Words.{FeedsAll}
 use Rattle.chain_states.specs.declared.state.State.{State}
 use Rattle.chain_states.specs.Calls.{argument_rows, batch_row, reaching}
-use Rattle.chain_states.specs.Places.{AreStates, FeedsAt, IsConditions, column_at}
+use Rattle.chain_states.specs.proving.Places.{AreStates, FeedsAt, IsConditions, column_at}
 
 pub each_set : {X : Type 0} (P : X → Type 0) (xs : List X) (i : ℕ) (x : X) → Each P xs → P x → Each P (set xs i x)
 each_set P [] i x k p = tt

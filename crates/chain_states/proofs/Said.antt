@@ -21,7 +21,7 @@ use Rattle.running_states.specs.Words.{Feeds, HasTree, JoinsAll}
 use Rattle.running_states.proofs.Outcomes.{on_ok}
 use Rattle.chain_states.specs.declared.state.State.{State}
 use Rattle.chain_states.specs.Calls.{TakeByPlace, chain_in, types_in}
-use Rattle.chain_states.specs.Places.{FeedsAt}
+use Rattle.chain_states.specs.proving.Places.{FeedsAt}
 use Rattle.chain_states.specs.Ready.{Call}
 
 module _ (c : Chain) (ts us : List Ty) (e : us ≡ inner_types c ts) where

@@ -1,4 +1,4 @@
 -- The files of chain_states, in reading order.
 pub mod Ready
 pub mod Calls
-pub mod Places
+pub mod proving

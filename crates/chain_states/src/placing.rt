@@ -12,7 +12,7 @@ ghost use Rattle.running_states.specs.Served.{is_served};
 ghost use Rattle.running_states.specs.Shapes.{IsState};
 ghost use Rattle.running_states.specs.Words.{Feeds};
 ghost use Rattle.chain_states.specs.Calls.{AddsFresh, IsStateOf, TakeByPlace, argument_rows, batch_row};
-ghost use Rattle.chain_states.specs.Places.{AreStates, FeedsAt, IsConditions};
+ghost use Rattle.chain_states.specs.proving.Places.{AreStates, FeedsAt, IsConditions};
 
 use crate::ready::ReadyCall;
 use crate::state::State;

@@ -24,7 +24,7 @@ use Rattle.value_types.specs.declared.value.Value.{Value as Valued}
 use Rattle.running_states.specs.declared.running.Running.{Running}
 use Rattle.running_states.specs.Served.{is_served}
 use Rattle.running_states.specs.Trees.{tree_in}
-use Rattle.chain_values.specs.Fitting.{IsRefed}
+use Rattle.chain_values.specs.proving.Fitting.{IsRefed}
 use Rattle.chain_values.proofs.Passing.{if_ok, legal_distinct}
 use Rattle.chain_values.proofs.ReadyLaws.{few, ready_served, sound}
 

@@ -22,8 +22,8 @@ use Rattle.value_types.specs.declared.value.Value.{Value}
 use Rattle.running_states.specs.declared.running.Running.{Running}
 use Rattle.running_states.specs.Trees.{tree_in}
 use Rattle.running_states.specs.Words.{Feeds}
-use Rattle.chain_links.specs.Words.{FeedsAll}
-use Rattle.chain_values.specs.Fitting.{HasRows, IsRefed, are_values, rows_of}
+use Rattle.chain_links.specs.proving.Words.{FeedsAll}
+use Rattle.chain_values.specs.proving.Fitting.{HasRows, IsRefed, are_values, rows_of}
 
 both : (a b : Bool) → (a && b) ≡ true → (a ≡ true) × (b ≡ true)
 both true b h = (refl, h)

@@ -20,7 +20,7 @@ use Rattle.running_states.specs.Entries.{entries_in}
 use Rattle.running_states.specs.Shapes.{AreKeyed, AreParts, AreSlots, IsState}
 use Rattle.running_states.specs.Trees.{tree_in}
 use Rattle.running_states.proofs.Layers.{out_Keyed, out_Slots, tree_Keyed, tree_Slots}
-use Rattle.chain_values.specs.Finished.{AreFed, AreKeysFed, MeanKeys, MeanSlots}
+use Rattle.chain_values.specs.proving.Finished.{AreFed, AreKeysFed, MeanKeys, MeanSlots}
 use Rattle.chain_values.proofs.KeyValues.{keys_told, keys_value}
 use Rattle.chain_values.proofs.Passing.{if_ok, legal_for_each, legal_map, legal_resample}
 use Rattle.chain_values.proofs.SlotValues.{parts_told, parts_value, slots_told, slots_value}

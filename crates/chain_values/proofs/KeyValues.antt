@@ -14,7 +14,7 @@ use Rattle.agg_meaning.specs.Suffixes.{at_key, fed, keys_of, meaning, normal}
 use Rattle.agg_meaning.proofs.ChainLaws.{keyed_same}
 use Rattle.agg_meaning.proofs.Formed.{key_here}
 use Rattle.agg_meaning.proofs.Kept.{each_flat_map}
-use Rattle.chain_values.specs.Finished.{AreFed, AreKeysFed, MeanKeys, MeanSlots}
+use Rattle.chain_values.specs.proving.Finished.{AreFed, AreKeysFed, MeanKeys, MeanSlots}
 use Rattle.chain_values.proofs.SlotValues.{fed_more, fed_none, slots_more, slots_none}
 
 keyed : (c : Chain) (ts : List Ty) (L : List (Feed (MapOf c))) → AreFeeds (MapOf c) ts L → (k : Value) → AreFeeds c (inward (MapOf c) ts) (flat_map (at_key k) L)

@@ -9,7 +9,7 @@ use Rattle.agg_terms.specs.Values.{Empty, Nil, Tree, Value, list_value, slots_tr
 use Rattle.agg_meaning.specs.Results.{blank}
 use Rattle.agg_meaning.specs.States.{IsFedChain, MeansChain}
 use Rattle.agg_meaning.proofs.Slots.{for_each_fed, for_each_means, resample_fed, resample_means}
-use Rattle.chain_values.specs.Finished.{AreFed, MeanSlots}
+use Rattle.chain_values.specs.proving.Finished.{AreFed, MeanSlots}
 
 -- values slot by slot
 get_past : {X : Type 0} (xs : List X) (d e : X) (i : ℕ) → i < length xs → get_or xs i d ≡ get_or xs i e

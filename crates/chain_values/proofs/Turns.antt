@@ -10,7 +10,7 @@ use Rattle.row_parts.specs.Rows.{pair_value}
 use Rattle.running_states.specs.declared.running.Running.{Running}
 use Rattle.running_states.specs.Entries.{entries_in}
 use Rattle.running_states.specs.Trees.{tree_in}
-use Rattle.chain_values.specs.Finished.{AreFed, AreKeysFed, MeanKeys, MeanSlots}
+use Rattle.chain_values.specs.proving.Finished.{AreFed, AreKeysFed, MeanKeys, MeanSlots}
 use Rattle.chain_values.proofs.KeyValues.{keys_fed_more, keys_fed_none, keys_more, keys_none}
 use Rattle.chain_values.proofs.SlotValues.{fed_more, fed_none, slots_more, slots_none}
 

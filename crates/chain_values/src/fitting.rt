@@ -6,8 +6,8 @@ ghost use Rattle.distinct_rows.specs.Rows.{rows_in};
 ghost use Rattle.value_types.specs.Folds.{chain_of, ty_of, value_of};
 ghost use Rattle.running_states.specs.Served.{is_served};
 ghost use Rattle.running_states.specs.Shapes.{IsState};
-ghost use Rattle.chain_links.specs.Words.{FeedsAll};
-ghost use Rattle.chain_values.specs.Fitting.{HasRows, IsRefed, are_values, rows_of};
+ghost use Rattle.chain_links.specs.proving.Words.{FeedsAll};
+ghost use Rattle.chain_values.specs.proving.Fitting.{HasRows, IsRefed, are_values, rows_of};
 
 use agg_values::fits;
 use chain_links::{feed, fresh};

@@ -10,7 +10,7 @@ ghost use Rattle.running_states.specs.Shapes.{IsState};
 ghost use Rattle.running_states.specs.Trees.{tree_in};
 ghost use Rattle.running_states.specs.Entries.{entries_in};
 ghost use Rattle.row_parts.specs.Rows.{pair_value};
-ghost use Rattle.chain_values.specs.Finished.{AreKeysFed, MeanKeys};
+ghost use Rattle.chain_values.specs.proving.Finished.{AreKeysFed, MeanKeys};
 
 use crate::chains::{either, fed_over, value_over};
 use link_types::item_types;

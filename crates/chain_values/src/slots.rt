@@ -8,7 +8,7 @@ ghost use Rattle.link_types.specs.Links.{inner_types};
 ghost use Rattle.value_types.specs.Folds.{chain_of, ty_of, value_of};
 ghost use Rattle.running_states.specs.Shapes.{IsState};
 ghost use Rattle.running_states.specs.Trees.{tree_in};
-ghost use Rattle.chain_values.specs.Finished.{AreFed, MeanSlots};
+ghost use Rattle.chain_values.specs.proving.Finished.{AreFed, MeanSlots};
 
 use crate::chains::{either, fed_over, value_over};
 use link_types::{element_types, front_types};

@@ -30,7 +30,7 @@ use Rattle.key_methods.proofs.SmallKinds.{fits_Key8, fits_Key16, fits_Key32, fit
 use Rattle.key_methods.proofs.Undone.{keys_are_one_to_one}
 use Rattle.table_words.specs.Tables.{same_tuple}
 use Rattle.table_words.proofs.Fed.{tuples}
-use Rattle.group_keys.specs.Texts.{same_bytes}
+use Rattle.group_keys.specs.proving.Texts.{same_bytes}
 use Rattle.group_keys.specs.Kinds.{is_one_number}
 use Rattle.group_keys.proofs.KeyLists.{codes-agree}
 

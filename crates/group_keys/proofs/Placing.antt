@@ -23,7 +23,7 @@ use Rattle.table_words.specs.Tables.{same_tuple}
 use Rattle.table_words.proofs.Fed.{tuples}
 use Rattle.table_words.proofs.KeysWith.{insert_key-present}
 use Rattle.group_keys.specs.Sets.{Holds, Places}
-use Rattle.group_keys.specs.Texts.{same_bytes}
+use Rattle.group_keys.specs.proving.Texts.{same_bytes}
 use Rattle.group_keys.specs.declared.key_set.KeySet.TheVariants.{One, Words, Wide, Texts}
 use Rattle.group_keys.proofs.Codes.{choice, is_word, no-number, one-word, plain-word, short-numbers, texts-agree, words-agree}
 use Rattle.group_keys.proofs.KeyLists.{each-push, good-keys_with, keys_with-coded, places_of-coded}

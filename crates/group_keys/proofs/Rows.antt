@@ -14,7 +14,7 @@ use Rattle.value_types.specs.declared.value.Value.TheVariants as value
 use Rattle.key_methods.specs.KeyBytes.{AreShort, IsShort, only_text, text_of}
 use Rattle.key_columns.specs.Words.{key_tuple, key_tuples}
 use Rattle.key_columns.proofs.KeyRows.{tuples_more}
-use Rattle.group_keys.specs.Texts.{same_bytes}
+use Rattle.group_keys.specs.proving.Texts.{same_bytes}
 use Rattle.group_keys.proofs.KeyLists.{Placed, each-push, placed-more}
 
 module _ (f : List family.Value → List ℕ) (columns : List TypedValues) (keys : List ℕ) (from row : ℕ) (text : List ℕ) {start old new : List (List ℕ)} {places more : List ℕ} {p : ℕ} where

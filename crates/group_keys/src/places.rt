@@ -2,7 +2,7 @@
 ghost use Rattle.std.specs.Prelude.{◌≡◌, map, replicate, IfOk, OnOk};
 ghost use Rattle.std.specs.List.{position_or_len};
 ghost use Rattle.indexmap.specs.IndexSet.{insert_key};
-ghost use Rattle.group_keys.specs.Texts.{same_bytes};
+ghost use Rattle.group_keys.specs.proving.Texts.{same_bytes};
 ghost use Rattle.table_words.specs.KeyLists.{keys_with, places_of};
 
 use indexmap::IndexSet;

@@ -2,7 +2,7 @@
 ghost use Rattle.std.specs.Prelude.{◌≡◌, ◌<◌, ◌≤◌, ◌-◌, All, length, map, true, IfOk, OnOk};
 ghost use Rattle.agg_terms.specs.Lists.{Each};
 ghost use Rattle.group_keys.specs.Kinds.{is_bytes};
-ghost use Rattle.group_keys.specs.Texts.{same_bytes};
+ghost use Rattle.group_keys.specs.proving.Texts.{same_bytes};
 ghost use Rattle.key_columns.specs.Words.{AreKeyColumns, column_at, key_tuples};
 ghost use Rattle.key_methods.specs.KeyBytes.{AreShort, bytes_by, only_text, values_bytes};
 ghost use Rattle.key_methods.specs.Kinds.{AreKeyTypes, kind_of};

@@ -23,18 +23,29 @@ pub elements::feed_span-loop-i-preserved : goal.elements::feed_span-loop-i-prese
 elements::feed_span-loop-i-preserved t c = (
   c.in_ok-feed.ensures.shape,
   fed_more (chain_of c.args.of.now) (map ty_of c.args.types.now) (element_rows (span_values c.args.elements.now)) c.loop-i.i (argument c.at.result ∷ []) c.args.state.now c.loop-i.state c.feed.new.state
-    (element_within (span_values c.args.elements.now) c.loop-i.i c.len-i-end.result c.loop-i-test.true c.len-i-end.ensures) (one_row c.args.elements.now c.loop-i.i c.at.result c.at.ensures) c.loop-i.invariant.1 c.in_ok-feed.ensures.row,
+      (element_within (span_values c.args.elements.now) c.loop-i.i c.len-i-end.result c.loop-i-test.true c.len-i-end.ensures) (one_row c.args.elements.now c.loop-i.i c.at.result c.at.ensures) c.loop-i.invariant.1 c.in_ok-feed.ensures.row,
 )
 
 pub elements::feed_tuples-feed-requires : goal.elements::feed_tuples-feed-requires
-elements::feed_tuples-feed-requires t c = (search rules, (c.requires.sound, (c.requires.served, (c.loop-i.invariant.0,
-  lent_few c.args.row.now c.as_slice.result.now c.lend_tuple.new.tuple c.loop-i.i c.count_tuples-count.result c.loop-i-test.true c.count_tuples-count.ensures c.as_slice.ensures c.lend_tuple.ensures c.requires.few))))
+elements::feed_tuples-feed-requires t c = (
+  search rules,
+  (
+    c.requires.sound,
+    (
+      c.requires.served,
+      (
+        c.loop-i.invariant.0,
+        lent_few c.args.row.now c.as_slice.result.now c.lend_tuple.new.tuple c.loop-i.i c.count_tuples-count.result c.loop-i-test.true c.count_tuples-count.ensures c.as_slice.ensures c.lend_tuple.ensures c.requires.few,
+      ),
+    ),
+  ),
+)
 
 pub elements::feed_tuples-loop-i-preserved : goal.elements::feed_tuples-loop-i-preserved
 elements::feed_tuples-loop-i-preserved t c = (
   c.in_ok-feed.ensures.shape,
   fed_more (chain_of c.args.of.now) (map ty_of c.args.types.now) (tuples (arguments c.args.row.now)) c.loop-i.i (arguments c.as_slice.result.now) c.args.state.now c.loop-i.state c.feed.new.state
-    (tuple_within c.args.row.now c.loop-i.i c.count_tuples-count.result c.loop-i-test.true c.count_tuples-count.ensures) (sym (lent_row c.as_slice.result.now c.lend_tuple.new.tuple _ c.as_slice.ensures c.lend_tuple.ensures)) c.loop-i.invariant.1 c.in_ok-feed.ensures.row,
+      (tuple_within c.args.row.now c.loop-i.i c.count_tuples-count.result c.loop-i-test.true c.count_tuples-count.ensures) (sym (lent_row c.as_slice.result.now c.lend_tuple.new.tuple _ c.as_slice.ensures c.lend_tuple.ensures)) c.loop-i.invariant.1 c.in_ok-feed.ensures.row,
 )
 
 -- -Resample
@@ -84,17 +95,27 @@ pub keys::feed_pairs-loop-i-init : goal.keys::feed_pairs-loop-i-init
 keys::feed_pairs-loop-i-init t c = (c.requires.shape, fed_no_keys (chain_of c.args.of.now) (map ty_of c.args.types.now) c.args.entries.now.items c.requires.shape.1)
 
 pub keys::feed_pairs-feed-requires : goal.keys::feed_pairs-feed-requires
-keys::feed_pairs-feed-requires t c = (search rules, (c.requires.sound, (c.requires.served, (
-  entry_state (chain_of c.args.of.now) (map ty_of c.args.types.now) _ c.loop-i.entries.items c.place_for_item.new.entries.items c.in_ok-place.place c.index_mut.result.now c.index_mut.result.now.1 c.in_ok-place.ensures c.loop-i.invariant.0.1 (search rules) c.loop-i.invariant.0,
-  search rules))))
+keys::feed_pairs-feed-requires t c = (
+  search rules,
+  (
+    c.requires.sound,
+    (
+      c.requires.served,
+      (
+        entry_state (chain_of c.args.of.now) (map ty_of c.args.types.now) _ c.loop-i.entries.items c.place_for_item.new.entries.items c.in_ok-place.place c.index_mut.result.now c.index_mut.result.now.1 c.in_ok-place.ensures c.loop-i.invariant.0.1 (search rules) c.loop-i.invariant.0,
+        search rules,
+      ),
+    ),
+  ),
+)
 
 pub keys::feed_pairs-loop-i-preserved : goal.keys::feed_pairs-loop-i-preserved
 keys::feed_pairs-loop-i-preserved t c = (
   entry_kept (chain_of c.args.of.now) (map ty_of c.args.types.now) _ c.loop-i.entries.items c.place_for_item.new.entries.items c.in_ok-place.place c.index_mut.result.now c.feed.new.state c.in_ok-place.ensures c.loop-i.invariant.0.1 (search rules) c.loop-i.invariant.0 c.in_ok-feed.ensures.shape,
   fed_pair (chain_of c.args.of.now) (map ty_of c.args.types.now) (map pair_value (pair_span_values c.args.pairs.now)) c.loop-i.i (argument c.key.result) (argument c.value.result) c.args.entries.now.items c.loop-i.entries.items _
-    (pair_within (pair_span_values c.args.pairs.now) c.loop-i.i c.len-i-end.result c.loop-i-test.true c.len-i-end.ensures) (pair_at (pair_span_values c.args.pairs.now) c.loop-i.i c.key.result c.value.result c.key.ensures c.value.ensures)
-    (fed_entry (chain_of c.args.of.now) (map ty_of c.args.types.now) (argument c.key.result) c.loop-i.entries.items c.place_for_item.new.entries.items c.in_ok-place.place c.index_mut.result.now c.feed.new.state c.in_ok-place.ensures c.loop-i.invariant.0.1 (search rules)
-    _ (argument c.value.result ∷ []) c.args.entries.now.items c.loop-i.invariant.1 c.in_ok-feed.ensures.row),
+      (pair_within (pair_span_values c.args.pairs.now) c.loop-i.i c.len-i-end.result c.loop-i-test.true c.len-i-end.ensures) (pair_at (pair_span_values c.args.pairs.now) c.loop-i.i c.key.result c.value.result c.key.ensures c.value.ensures)
+      (fed_entry (chain_of c.args.of.now) (map ty_of c.args.types.now) (argument c.key.result) c.loop-i.entries.items c.place_for_item.new.entries.items c.in_ok-place.place c.index_mut.result.now c.feed.new.state c.in_ok-place.ensures c.loop-i.invariant.0.1 (search rules)
+      _ (argument c.value.result ∷ []) c.args.entries.now.items c.loop-i.invariant.1 c.in_ok-feed.ensures.row),
 )
 
 -- -ForEach
@@ -113,18 +134,28 @@ places::feed_span-loop-i-preserved t c = (
   room_kept (chain_of c.args.of.now) (map ty_of c.args.types.now) c.args.slots.now.items c.loop-i.slots.items c.make_room.new.slots.items c.loop-i.i c.index_mut.result.now c.feed.new.state c.in_ok-make_room.ensures (search rules),
   kept_place (chain_of c.args.of.now) (map ty_of c.args.types.now) c.args.slots.now.items c.loop-i.slots.items c.make_room.new.slots.items c.loop-i.i c.index_mut.result.now c.feed.new.state c.in_ok-make_room.ensures (search rules) (search rules) c.in_ok-feed.ensures.shape,
   fed_place (chain_of c.args.of.now) (map ty_of c.args.types.now) c.args.slots.now.items c.loop-i.slots.items c.make_room.new.slots.items c.loop-i.i c.index_mut.result.now c.feed.new.state c.in_ok-make_room.ensures (search rules)
-    (element_rows (span_values c.args.elements.now)) (argument c.at.result ∷ []) (one_row c.args.elements.now c.loop-i.i c.at.result c.at.ensures) (search rules) c.in_ok-feed.ensures.row,
+      (element_rows (span_values c.args.elements.now)) (argument c.at.result ∷ []) (one_row c.args.elements.now c.loop-i.i c.at.result c.at.ensures) (search rules) c.in_ok-feed.ensures.row,
 )
 
 pub places::feed_tuples-feed-requires : goal.places::feed_tuples-feed-requires
-places::feed_tuples-feed-requires t c = (search rules, (c.requires.sound, (c.requires.served, (
-  own_place (chain_of c.args.of.now) (map ty_of c.args.types.now) c.args.slots.now.items c.loop-i.slots.items c.make_room.new.slots.items c.loop-i.i c.index_mut.result.now c.index_mut.result.now c.in_ok-make_room.ensures (search rules) (search rules),
-  lent_few c.args.row.now c.as_slice.result.now c.lend_tuple.new.tuple c.loop-i.i c.count_tuples-count.result c.loop-i-test.true c.count_tuples-count.ensures c.as_slice.ensures c.lend_tuple.ensures c.requires.few))))
+places::feed_tuples-feed-requires t c = (
+  search rules,
+  (
+    c.requires.sound,
+    (
+      c.requires.served,
+      (
+        own_place (chain_of c.args.of.now) (map ty_of c.args.types.now) c.args.slots.now.items c.loop-i.slots.items c.make_room.new.slots.items c.loop-i.i c.index_mut.result.now c.index_mut.result.now c.in_ok-make_room.ensures (search rules) (search rules),
+        lent_few c.args.row.now c.as_slice.result.now c.lend_tuple.new.tuple c.loop-i.i c.count_tuples-count.result c.loop-i-test.true c.count_tuples-count.ensures c.as_slice.ensures c.lend_tuple.ensures c.requires.few,
+      ),
+    ),
+  ),
+)
 
 pub places::feed_tuples-loop-i-preserved : goal.places::feed_tuples-loop-i-preserved
 places::feed_tuples-loop-i-preserved t c = (
   room_kept (chain_of c.args.of.now) (map ty_of c.args.types.now) c.args.slots.now.items c.loop-i.slots.items c.make_room.new.slots.items c.loop-i.i c.index_mut.result.now c.feed.new.state c.in_ok-make_room.ensures (search rules),
   kept_place (chain_of c.args.of.now) (map ty_of c.args.types.now) c.args.slots.now.items c.loop-i.slots.items c.make_room.new.slots.items c.loop-i.i c.index_mut.result.now c.feed.new.state c.in_ok-make_room.ensures (search rules) (search rules) c.in_ok-feed.ensures.shape,
   fed_place (chain_of c.args.of.now) (map ty_of c.args.types.now) c.args.slots.now.items c.loop-i.slots.items c.make_room.new.slots.items c.loop-i.i c.index_mut.result.now c.feed.new.state c.in_ok-make_room.ensures (search rules)
-    (tuples (arguments c.args.row.now)) (arguments c.as_slice.result.now) (sym (lent_row c.as_slice.result.now c.lend_tuple.new.tuple _ c.as_slice.ensures c.lend_tuple.ensures)) (search rules) c.in_ok-feed.ensures.row,
+      (tuples (arguments c.args.row.now)) (arguments c.as_slice.result.now) (sym (lent_row c.as_slice.result.now c.lend_tuple.new.tuple _ c.as_slice.ensures c.lend_tuple.ensures)) (search rules) c.in_ok-feed.ensures.row,
 )

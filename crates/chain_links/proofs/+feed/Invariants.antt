@@ -6,7 +6,7 @@ use Rattle.typed_columns.specs.Items.{pair_span_values, span_values}
 use Rattle.value_types.specs.Folds.{chain_of, ty_of}
 use Rattle.row_parts.specs.Rows.{arguments, element_rows, pair_rows, pair_value}
 use Rattle.running_states.specs.Shapes.{AreEntries, IsState}
-use Rattle.chain_links.specs.Words.{FeedsAll, FeedsKeys, FeedsPlaces}
+use Rattle.chain_links.specs.proving.Words.{FeedsAll, FeedsKeys, FeedsPlaces}
 use Rattle.chain_links.proofs.+feed.Given as goal
 
 abbrev pub invariant-elements::feed_span-loop-i : goal.invariant-elements::feed_span-loop-i

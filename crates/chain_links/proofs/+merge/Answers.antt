@@ -34,14 +34,24 @@ keys::merge_entries-loop-i-init t c =
     (c.requires.first, joined_no_keys (chain_of c.args.of.now) (map ty_of c.args.types.now) c.args.entries.now.items c.args.later.now c.requires.first.1)
 
 pub keys::merge_entries-merge-requires : goal.keys::merge_entries-merge-requires
-keys::merge_entries-merge-requires t c = (search rules, (c.requires.sound, (c.requires.served, (
-  entry_state (chain_of c.args.of.now) (map ty_of c.args.types.now) _ c.loop-i.entries.items c.place_for.new.entries.items c.in_ok-place.place c.index_mut.result.now c.index_mut.result.now.1 c.in_ok-place.ensures c.loop-i.invariant.0.1 (search rules) c.loop-i.invariant.0,
-  each_get (λ e. IsState (chain_of c.args.of.now) (map ty_of c.args.types.now) e.1) c.args.later.now c.loop-i.i (get_or c.args.later.now c.loop-i.i c.index-later-i-in-loop-i-2.result) c.requires.later.0 c.loop-i-test.true (search rules)))))
+keys::merge_entries-merge-requires t c = (
+  search rules,
+  (
+    c.requires.sound,
+    (
+      c.requires.served,
+      (
+        entry_state (chain_of c.args.of.now) (map ty_of c.args.types.now) _ c.loop-i.entries.items c.place_for.new.entries.items c.in_ok-place.place c.index_mut.result.now c.index_mut.result.now.1 c.in_ok-place.ensures c.loop-i.invariant.0.1 (search rules) c.loop-i.invariant.0,
+        each_get (λ e. IsState (chain_of c.args.of.now) (map ty_of c.args.types.now) e.1) c.args.later.now c.loop-i.i (get_or c.args.later.now c.loop-i.i c.index-later-i-in-loop-i-2.result) c.requires.later.0 c.loop-i-test.true (search rules),
+      ),
+    ),
+  ),
+)
 
 pub keys::merge_entries-loop-i-preserved : goal.keys::merge_entries-loop-i-preserved
 keys::merge_entries-loop-i-preserved t c = (
   entry_kept (chain_of c.args.of.now) (map ty_of c.args.types.now) _ c.loop-i.entries.items c.place_for.new.entries.items c.in_ok-place.place c.index_mut.result.now c.merge.new.state c.in_ok-place.ensures c.loop-i.invariant.0.1 (search rules) c.loop-i.invariant.0 c.in_ok-merge.ensures.shape,
   joined_entry (chain_of c.args.of.now) (map ty_of c.args.types.now) _ c.loop-i.entries.items c.place_for.new.entries.items c.in_ok-place.place c.index_mut.result.now c.merge.new.state c.in_ok-place.ensures c.loop-i.invariant.0.1 (search rules)
-    c.args.entries.now.items c.args.later.now c.loop-i.i c.index-later-i-in-loop-i-2.result c.requires.later.1 c.loop-i-test.true c.index-later-i-in-loop-i-2.is
-    (ap (λ e. value_of e.0) (own_at c.args.later.now c.loop-i.i c.index-later-i-in-loop-i-2.result c.index-later-i-in-loop-i.result c.loop-i-test.true c.index-later-i-in-loop-i-2.is)) c.loop-i.invariant.1 (search rules),
+      c.args.entries.now.items c.args.later.now c.loop-i.i c.index-later-i-in-loop-i-2.result c.requires.later.1 c.loop-i-test.true c.index-later-i-in-loop-i-2.is
+      (ap (λ e. value_of e.0) (own_at c.args.later.now c.loop-i.i c.index-later-i-in-loop-i-2.result c.index-later-i-in-loop-i.result c.loop-i-test.true c.index-later-i-in-loop-i-2.is)) c.loop-i.invariant.1 (search rules),
 )

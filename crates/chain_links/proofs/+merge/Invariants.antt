@@ -3,7 +3,7 @@ use Rattle.std.proofs.Common.{◌≤◌, map, length}
 use Rattle.agg_terms.specs.Lists.{Each}
 use Rattle.value_types.specs.Folds.{chain_of, ty_of}
 use Rattle.running_states.specs.Shapes.{AreEntries, IsState}
-use Rattle.chain_links.specs.Words.{JoinsKeys, JoinsPlaces}
+use Rattle.chain_links.specs.proving.Words.{JoinsKeys, JoinsPlaces}
 use Rattle.chain_links.proofs.+merge.Given as goal
 
 abbrev pub invariant-places::merge_slots-loop-i : goal.invariant-places::merge_slots-loop-i

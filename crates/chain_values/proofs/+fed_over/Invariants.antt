@@ -3,7 +3,7 @@ use Rattle.std.proofs.Common.{map, take}
 use Rattle.value_types.specs.Folds.{chain_of, ty_of}
 use Rattle.running_states.specs.Trees.{tree_in}
 use Rattle.running_states.specs.Entries.{entries_in}
-use Rattle.chain_values.specs.Finished.{AreFed, AreKeysFed}
+use Rattle.chain_values.specs.proving.Finished.{AreFed, AreKeysFed}
 use Rattle.chain_values.proofs.+fed_over.Given as goal
 
 abbrev pub invariant-slots::some_fed-loop-i : goal.invariant-slots::some_fed-loop-i

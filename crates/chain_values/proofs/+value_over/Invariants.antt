@@ -4,7 +4,7 @@ use Rattle.value_types.specs.Folds.{chain_of, ty_of, value_of}
 use Rattle.row_parts.specs.Rows.{pair_value}
 use Rattle.running_states.specs.Trees.{tree_in}
 use Rattle.running_states.specs.Entries.{entries_in}
-use Rattle.chain_values.specs.Finished.{MeanKeys, MeanSlots}
+use Rattle.chain_values.specs.proving.Finished.{MeanKeys, MeanSlots}
 use Rattle.chain_values.proofs.+value_over.Given as goal
 
 abbrev pub invariant-slots::values_of-loop-i : goal.invariant-slots::values_of-loop-i

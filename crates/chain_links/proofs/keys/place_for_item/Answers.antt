@@ -5,7 +5,7 @@ use Rattle.int_leaves.specs.Rows.{argument}
 use Rattle.value_types.specs.Folds.{chain_of, ty_of}
 use Rattle.value_types.proofs.FoldLaws.{value_of-Bytes}
 use Rattle.running_states.specs.Entries.{IsFoundAt, keys_in}
-use Rattle.chain_links.specs.Words.{HasEntry}
+use Rattle.chain_links.specs.proving.Words.{HasEntry}
 use Rattle.chain_links.proofs.Rooms.{entry_found}
 use Rattle.chain_links.proofs.keys.place_for_item.Goals as goal
 

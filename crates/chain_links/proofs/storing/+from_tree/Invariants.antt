@@ -3,7 +3,7 @@ use Rattle.std.proofs.Common.{◌≡◌, ◌≤◌, map, take, length}
 use Rattle.agg_terms.specs.Lists.{Each}
 use Rattle.value_types.specs.Folds.{chain_of, entry_of, tree_of, ty_of}
 use Rattle.running_states.specs.Shapes.{AreEntries, IsState}
-use Rattle.chain_links.specs.Words.{HasTrees, StoresKeys}
+use Rattle.chain_links.specs.proving.Words.{HasTrees, StoresKeys}
 use Rattle.chain_links.proofs.storing.+from_tree.Given as goal
 
 abbrev pub invariant-slots_from-loop-i : goal.invariant-slots_from-loop-i

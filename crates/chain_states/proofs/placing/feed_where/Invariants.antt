@@ -3,7 +3,7 @@ use Rattle.std.proofs.Common.{[], ◌∷◌, ◌++◌, map, take}
 use Rattle.agg_terms.specs.Chains.{If}
 use Rattle.value_types.specs.Folds.{chain_of, ty_of}
 use Rattle.chain_states.specs.Calls.{argument_rows}
-use Rattle.chain_states.specs.Places.{AreStates, FeedsAt}
+use Rattle.chain_states.specs.proving.Places.{AreStates, FeedsAt}
 use Rattle.chain_states.proofs.placing.feed_where.Given as goal
 
 abbrev pub invariant-loop-i : goal.invariant-loop-i

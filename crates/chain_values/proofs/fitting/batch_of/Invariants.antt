@@ -2,7 +2,7 @@
 use Rattle.std.proofs.Common.{◌≡◌, map, take}
 use Rattle.distinct_rows.specs.Rows.{rows_in}
 use Rattle.value_types.specs.Folds.{ty_of}
-use Rattle.chain_values.specs.Fitting.{HasRows}
+use Rattle.chain_values.specs.proving.Fitting.{HasRows}
 use Rattle.chain_values.proofs.fitting.batch_of.Given as goal
 
 abbrev pub invariant-loop-i : goal.invariant-loop-i

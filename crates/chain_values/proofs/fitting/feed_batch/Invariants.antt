@@ -2,8 +2,8 @@
 use Rattle.std.proofs.Common.{map, take}
 use Rattle.value_types.specs.Folds.{chain_of, ty_of}
 use Rattle.running_states.specs.Shapes.{IsState}
-use Rattle.chain_links.specs.Words.{FeedsAll}
-use Rattle.chain_values.specs.Fitting.{rows_of}
+use Rattle.chain_links.specs.proving.Words.{FeedsAll}
+use Rattle.chain_values.specs.proving.Fitting.{rows_of}
 use Rattle.chain_values.proofs.fitting.feed_batch.Given as goal
 
 abbrev pub invariant-loop-i : goal.invariant-loop-i

@@ -2,7 +2,7 @@ use Rattle.std.proofs.Common.{◌-◌, map}
 use Rattle.agg_terms.specs.Lists.{Each}
 use Rattle.key_methods.specs.KeyBytes.{AreShort, only_text}
 use Rattle.key_columns.specs.Words.{key_tuples}
-use Rattle.group_keys.specs.Texts.{same_bytes}
+use Rattle.group_keys.specs.proving.Texts.{same_bytes}
 use Rattle.group_keys.proofs.KeyLists.{Placed}
 use Rattle.group_keys.proofs.texts.place_strings.Given as goal
 

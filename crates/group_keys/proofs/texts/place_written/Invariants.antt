@@ -3,7 +3,7 @@ use Rattle.agg_terms.specs.Lists.{Each}
 use Rattle.value_types.specs.Folds.{ty_of}
 use Rattle.key_methods.specs.KeyBytes.{AreShort, values_bytes}
 use Rattle.key_columns.specs.Words.{key_tuples}
-use Rattle.group_keys.specs.Texts.{same_bytes}
+use Rattle.group_keys.specs.proving.Texts.{same_bytes}
 use Rattle.group_keys.proofs.KeyLists.{Placed}
 use Rattle.group_keys.proofs.texts.place_written.Given as goal
 

@@ -7,7 +7,7 @@ use Rattle.typed_columns.specs.TypedValues.{TypedValues}
 use Rattle.value_types.specs.declared.ty.Ty.TheVariants as ty
 use Rattle.value_types.specs.declared.value.Value.TheVariants.{Num}
 use Rattle.running_states.specs.Shapes.{IsState}
-use Rattle.chain_links.specs.Words.{FeedsAll}
+use Rattle.chain_links.specs.proving.Words.{FeedsAll}
 use Rattle.chain_states.specs.declared.state.State.{State}
 use Rattle.chain_states.specs.Calls.{reaching}
 
