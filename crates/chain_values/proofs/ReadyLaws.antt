@@ -203,4 +203,3 @@ pub ready_served : (c : Chain) (ts us : List Ty) → IsLegalCall c ts → us ≡
 ready_served c ts us l e = subst (λ ys. is_served (function_of c) ys ≡ true) (sym e) (served c ts l)
 
 pub ruleset ready_laws = (ready_sound, ready_served)
-

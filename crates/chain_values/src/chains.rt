@@ -58,7 +58,12 @@ pub fn value_over(
 
 /// The state itself, as its tree. ClickHouse manual: "Aggregate function combinators", -State.
 #[tactic(auto, using(value_types::proofs::FoldLaws::value_laws, crate::proofs::Passing::state_laws))]
-fn state_value(of: &Chain, alloc: Global, types: &[Ty], state: &Running) -> Result<Value, OutOfMemory>
+fn state_value(
+    of: &Chain,
+    alloc: Global,
+    types: &[Ty],
+    state: &Running,
+) -> Result<Value, OutOfMemory>
     ensures { IfOk result (λ v. MeansChain (State (chain_of of.now)) (map ty_of types.now) (tree_in state.now) (value_of v)) }
 {
     Ok(Value::Cell(tree(alloc, state)?))

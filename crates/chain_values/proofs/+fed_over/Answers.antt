@@ -56,4 +56,4 @@ pub keys::some_key_fed-loop-i-preserved : goal.keys::some_key_fed-loop-i-preserv
 keys::some_key_fed-loop-i-preserved t c =
     subst (AreKeysFed (chain_of c.args.of.now) (map ty_of c.args.types.now) (entries_in (take (c.loop-i.i + 1) c.args.entries.now))) (sym c.either-is_fed.ensures)
     (keys_fed_step (chain_of c.args.of.now) (map ty_of c.args.types.now) c.args.entries.now c.loop-i.i c.index-entries-i.result c.loop-i.is_fed c.in_ok-here.here c.loop-i-test.true c.index-entries-i.is c.loop-i.invariant
-      (subst (λ z. IsFedChain (chain_of c.args.of.now) (map ty_of c.args.types.now) (tree_in z.1) c.in_ok-here.here) (sym c.index-entries-i.is) c.in_ok-here.ensures))
+    (subst (λ z. IsFedChain (chain_of c.args.of.now) (map ty_of c.args.types.now) (tree_in z.1) c.in_ok-here.here) (sym c.index-entries-i.is) c.in_ok-here.ensures))
