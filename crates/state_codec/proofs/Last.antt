@@ -1,13 +1,11 @@
 -- Items in view of those before them, of which the last counts.
-use Rattle.std.proofs.Common.{◌≡◌, Bool, true, false, not, ◌&&◌, cond, List, [], ◌∷◌, ◌++◌, map, Ordering, refl, ap, ◌∙◌}
-use Rattle.std.specs.List.{list_all}
-use Rattle.std.specs.Ordering.{is_eq, is_le, is_lt}
-use Rattle.agg_terms.specs.Lists.{some}
+use Rattle.std.proofs.Common.{◌≡◌, List, [], ◌∷◌, ◌++◌, map, Ordering, refl, ap, ◌∙◌}
+use Rattle.std.specs.Ordering.{is_le, is_lt}
 use Rattle.agg_terms.specs.Values as family
 use Rattle.value_types.specs.declared.value.KeyedTree.{KeyedTree}
 use Rattle.value_types.specs.declared.value.Tree.TheFolds.{fold-roll-KeyedTree}
 use Rattle.value_types.specs.Folds.{entry_of, entry_step, tree_step, value_of, value_step}
-use Rattle.state_codec.specs.Reading.{holds_up, is_new, rises}
+use Rattle.state_codec.specs.Reading.{holds_up, rises}
 use Rattle.state_codec.specs.proving.Views.{behind, keys_of}
 
 last_behind : {X Y : Type 0} (f : X → Y) (front : List X) (last : X) → behind (map f (front ++ last ∷ [])) ≡ f last ∷ behind (map f front)
