@@ -1,10 +1,12 @@
 -- Answers for the cycle of chain_values::chains::value_over.
-use Rattle.std.proofs.Common.{rules, ◌≡◌, map, sym, ap, ◌∙◌, subst}
+use Rattle.std.proofs.Common.{rules, ◌≡◌, map, sym, ap, ◌∙◌, subst, to_z, of_z}
+use mir.Syntax.{w64}
 use Rattle.std.specs.Result.{IfOk}
 use Rattle.agg_terms.specs.Chains.{Array, ForEach, MapOf}
 use Rattle.agg_terms.specs.Lists.{Each}
 use Rattle.agg_terms.specs.Types.{inward}
 use Rattle.agg_terms.specs.Chains as terms
+use Rattle.agg_meaning.specs.States.{MeansChain}
 use Rattle.agg_terms.specs.Values.{rows_tree}
 use Rattle.distinct_rows.specs.Rows.{rows_in}
 use Rattle.row_parts.specs.Rows.{pair_value}
@@ -87,7 +89,12 @@ chains::value_over-returns-in-State t c =
 
 pub chains::value_over-returns-in-Resample : goal.chains::value_over-returns-in-Resample
 chains::value_over-returns-in-Resample t c =
-    value_arm c.args.chain.now (map ty_of c.args.types.now) (tree_in c.args.state.now) c.value_of_parts.result (λ o. chained.Resample c.in-Resample.start c.in-Resample.end c.in-Resample.step o) (λ z. terms.Resample c.in-Resample.start c.in-Resample.end c.in-Resample.step z) (λ o. chain_of-Resample o c.in-Resample.start c.in-Resample.end c.in-Resample.step) _ c.get-in-Resample.result.now c.in-Resample.is c.get-in-Resample.ensures c.value_of_parts.ensures
+    let r = c.in-Resample in
+    let low : to_z w64 (of_z w64 r.start) ≡ r.start = search rules in
+    let high : to_z w64 (of_z w64 r.end) ≡ r.end = search rules in
+    value_arm c.args.chain.now (map ty_of c.args.types.now) (tree_in c.args.state.now) c.value_of_parts.result (λ o. chained.Resample r.start r.end r.step o) (λ z. terms.Resample r.start r.end r.step z) (λ o. chain_of-Resample o r.start r.end r.step) _ c.get-in-Resample.result.now r.is c.get-in-Resample.ensures
+    (subst (λ z. IfOk c.value_of_parts.result (λ v. MeansChain (terms.Resample z r.end r.step (chain_of c.get-in-Resample.result.now)) (map ty_of c.args.types.now) (tree_in c.args.state.now) (value_of v))) low
+    (subst (λ z. IfOk c.value_of_parts.result (λ v. MeansChain (terms.Resample (to_z w64 (of_z w64 r.start)) z r.step (chain_of c.get-in-Resample.result.now)) (map ty_of c.args.types.now) (tree_in c.args.state.now) (value_of v))) high c.value_of_parts.ensures))
 
 pub chains::value_over-returns-in_ok-inner-in-Merge : goal.chains::value_over-returns-in_ok-inner-in-Merge
 chains::value_over-returns-in_ok-inner-in-Merge t c =
