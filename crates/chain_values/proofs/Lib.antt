@@ -2,6 +2,7 @@ pub mod Passing
 pub mod SlotValues
 pub mod KeyValues
 pub mod Turns
+pub mod Arms
 pub mod KeptParts
 pub mod FirstValues
 pub mod FunctionValues
