@@ -19,7 +19,7 @@ use Rattle.running_states.specs.Shapes.{IsState}
 use Rattle.running_states.specs.Trees.{tree_in}
 use Rattle.chain_values.proofs.KeptParts.{function_for_each, function_map, function_resample, keys_here, keys_values, parts_here, parts_values, slots_here, slots_values}
 use Rattle.chain_values.proofs.Passing.{function_array, function_if, function_merge, legal_array, legal_for_each, legal_if, legal_map, legal_merge, legal_resample}
-use Rattle.chain_values.specs.Finished.{MeanKeys, MeanSlots}
+use Rattle.chain_values.specs.proving.Finished.{MeanKeys, MeanSlots}
 use Rattle.chain_values.proofs.Arms.{value_arm, value_leaf}
 use Rattle.chain_values.proofs.FirstValues.{first_values}
 use Rattle.chain_values.proofs.+value_over.Goals as goal
