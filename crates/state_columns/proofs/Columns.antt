@@ -12,7 +12,7 @@ use Rattle.chain_states.specs.Calls.{AddsFresh, IsStateOf, StateTakes, TakeByPla
 use Rattle.chain_states.specs.Calls as calls
 use Rattle.table_words.specs.KeyLists.{reaching}
 use Rattle.table_words.specs.Laws.{JoinsAll}
-use Rattle.chain_states.specs.declared.ready.ReadyCall.{ReadyCall}
+use Rattle.chain_states.specs.Ready.{Call}
 use Rattle.chain_states.specs.declared.state.State.{State}
 use Rattle.state_columns.specs.Trees.{JoinAt, TakeAt, blank_in}
 
@@ -43,7 +43,7 @@ same-reaching g [] xs = refl
 same-reaching g (p ∷ ps) [] = refl
 same-reaching g (p ∷ ps) (x ∷ xs) = ap (λ l. cond (nat_eq p g) (x ∷ l) l) (same-reaching g ps xs)
 
-pub takes-at : (k : ReadyCall) (ps : List ℕ) (rs : List (List Value)) (ss vv : List State) → TakeByPlace k ps rs ss vv → TakeAt k ps rs (map tree_in ss) (map tree_in vv)
+pub takes-at : (k : Call) (ps : List ℕ) (rs : List (List Value)) (ss vv : List State) → TakeByPlace k ps rs ss vv → TakeAt k ps rs (map tree_in ss) (map tree_in vv)
 takes-at k ps rs ss vv t = record {
   long = length-map vv tree_in ∙ t.long ∙ sym (length-map ss tree_in);
   at = λ g h.
@@ -63,7 +63,7 @@ same_lists [] (y ∷ ys) e f = absurd (omega (arith, e))
 same_lists (x ∷ xs) [] e f = absurd (omega (arith, e))
 same_lists (x ∷ xs) (y ∷ ys) e f = ap₂ ◌∷◌ (f 0 (omega arith)) (same_lists xs ys (omega (arith, e)) (λ i h. f (suc i) (omega (arith, h))))
 
-pub fresh-behind : (k : ReadyCall) (n : ℕ) (ss vv : List State) → AddsFresh k n ss vv → map tree_in vv ≡ map tree_in ss ++ replicate n (blank_in k)
+pub fresh-behind : (k : Call) (n : ℕ) (ss vv : List State) → AddsFresh k n ss vv → map tree_in vv ≡ map tree_in ss ++ replicate n (blank_in k)
 fresh-behind k n ss vv f =
     same_lists (map tree_in vv) (map tree_in ss ++ replicate n (blank_in k))
     (omega (arith, length-map vv tree_in, f.long, length-map ss tree_in, length-append (map tree_in ss) (replicate n (blank_in k)), length-replicate n (blank_in k)))
@@ -81,7 +81,7 @@ fresh-behind k n ss vv f =
         ∙ get_or-replicate n (i - length ss) (blank_in k) Empty (omega (arith, h, f.long, above)))
 
 -- ---- states joined by their places
-pub joined-none : (k : ReadyCall) (ss : List Tree) → JoinAt k [] [] ss ss
+pub joined-none : (k : Call) (ss : List Tree) → JoinAt k [] [] ss ss
 joined-none k ss = record { long = refl; at = λ g h. refl }
 
 reaching-more : {X : Type 0} (g : ℕ) (ps : List ℕ) (us : List X) (p : ℕ) (u : X) → length ps ≡ length us
@@ -96,7 +96,7 @@ reaching-more g (q ∷ ps) (v ∷ us) p u e = by (nat_eq q g) (reaching-more g p
     by true r = ap (λ l. v ∷ l) r
     by false r = r
 
-joins-more : (k : ReadyCall) (us : List Tree) (u t v w : Tree) → JoinsAll (chain_in k) (types_in k) us t v → Joins (chain_in k) (types_in k) v u w → JoinsAll (chain_in k) (types_in k) (us ++ u ∷ []) t w
+joins-more : (k : Call) (us : List Tree) (u t v w : Tree) → JoinsAll (chain_in k) (types_in k) us t v → Joins (chain_in k) (types_in k) v u w → JoinsAll (chain_in k) (types_in k) (us ++ u ∷ []) t w
 joins-more k [] u t v w same last = (w, subst (λ x. Joins (chain_in k) (types_in k) x u w) (sym same) last, refl)
 joins-more k (x ∷ us) u t v w all last = (all.0, all.1, joins-more k us u all.0 v w all.2 last)
 
@@ -104,7 +104,7 @@ append_none : (xs : List Tree) → xs ≡ xs ++ []
 append_none [] = refl
 append_none (x ∷ xs) = ap (λ l. x ∷ l) (append_none xs)
 
-pub joined-more : (k : ReadyCall) (ps : List ℕ) (us ss vv : List Tree) (p : ℕ) (u w : Tree) → length ps ≡ length us → JoinAt k ps us ss vv → p < length ss
+pub joined-more : (k : Call) (ps : List ℕ) (us ss vv : List Tree) (p : ℕ) (u w : Tree) → length ps ≡ length us → JoinAt k ps us ss vv → p < length ss
     → Joins (chain_in k) (types_in k) (get_or vv p Empty) u w → JoinAt k (ps ++ p ∷ []) (us ++ u ∷ []) ss (set vv p w)
 joined-more k ps us ss vv p u w e j h last = record {
   long = length-set vv p w ∙ j.long;
@@ -132,7 +132,7 @@ map-set (s ∷ ss) zero v = refl
 map-set (s ∷ ss) (suc p) v = ap (λ l. tree_in s ∷ l) (map-set ss p v)
 
 -- the next of the later states
-pub joined-next : (k : ReadyCall) (later : List State) (places : List ℕ) (start states : List State) (i : ℕ) (s l v : State) → length places ≡ length later → i < length places →
+pub joined-next : (k : Call) (later : List State) (places : List ℕ) (start states : List State) (i : ℕ) (s l v : State) → length places ≡ length later → i < length places →
     All (λ p. p < length start) places → l ≡ get_or later i l → s ≡ get_or states (get_or places i 0) s →
     JoinAt k (take i places) (take i (map tree_in later)) (map tree_in start) (map tree_in states) → Joins (chain_in k) (types_in k) (tree_in s) (tree_in l) (tree_in v) →
     JoinAt k (take (i + 1) places) (take (i + 1) (map tree_in later)) (map tree_in start) (map tree_in (set states (get_or places i 0) v))
@@ -154,7 +154,7 @@ joined-next k later places start states i s l v count lt below l-is s-is j joins
     (subst (λ t. Joins (chain_in k) (types_in k) t (tree_in l) (tree_in v)) (ap tree_in s-is ∙ sym (at_map states p s within)) joins))))
 
 -- one tree
-pub joined-one : (k : ReadyCall) (ss : List State) (p : ℕ) (s v : State) (u : Tree) → p < length ss → s ≡ get_or ss p s → Joins (chain_in k) (types_in k) (tree_in s) u (tree_in v) →
+pub joined-one : (k : Call) (ss : List State) (p : ℕ) (s v : State) (u : Tree) → p < length ss → s ≡ get_or ss p s → Joins (chain_in k) (types_in k) (tree_in s) u (tree_in v) →
     JoinAt k (p ∷ []) (u ∷ []) (map tree_in ss) (map tree_in (set ss p v))
 joined-one k ss p s v u h is joins =
     subst (λ vv. JoinAt k (p ∷ []) (u ∷ []) (map tree_in ss) vv) (sym (map-set ss p v))
