@@ -1,4 +1,4 @@
-use Rattle.std.proofs.Common.{map, ◌∙◌}
+use Rattle.std.proofs.Common.{◌∙◌}
 use Rattle.state_codec.proofs.Fresh.{is_behind, is_fresh}
 use Rattle.state_codec.proofs.distinct.put_behind.Goals as goal
 
