@@ -1,0 +1,5 @@
+pub mod Calls
+pub mod Groupings
+pub mod Fed
+pub mod Rows
+pub mod Tables
