@@ -25,7 +25,7 @@ use Rattle.key_methods.specs.Kinds.{AreKeyTypes}
 use Rattle.key_columns.specs.Words.{AreKeyColumns, column_at, key_tuple, key_tuples, key_values}
 use Rattle.chain_states.specs.Calls.{argument_rows, batch_row}
 use Rattle.group_tables.specs.Calls.{call_of, calls_of}
-use Rattle.group_tables.specs.Rows.{rows_between}
+use Rattle.group_tables.specs.proving.Rows.{rows_between}
 use Rattle.group_tables.specs.declared.grouping.GroupCall.{GroupCall}
 use Rattle.group_tables.proofs.Few.{few-arguments}
 

@@ -13,7 +13,7 @@ use Rattle.chain_states.specs.Calls.{argument_rows, chain_in, types_in}
 use Rattle.state_columns.specs.Trees.{IsColumnOf, TakeAt, blank_in, trees_in}
 use Rattle.state_columns.specs.declared.column.StateColumn.{StateColumn}
 use Rattle.table_words.specs.KeyLists.{reaching}
-use Rattle.group_tables.specs.Fed.{AreFed, AreFresh, IsFed, IsFresh}
+use Rattle.group_tables.specs.proving.Fed.{AreFed, AreFresh, IsFed, IsFresh}
 use Rattle.group_tables.specs.Tables.{AreColumns}
 use Rattle.group_tables.specs.declared.grouping.GroupCall.{GroupCall}
 

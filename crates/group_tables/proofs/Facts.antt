@@ -21,7 +21,7 @@ use Rattle.value_types.specs.declared.ty.Ty.TheVariants as rust
 use Rattle.key_methods.specs.Kinds.{AreKeyTypes}
 use Rattle.key_columns.specs.Words.{AreKeyColumns}
 use Rattle.group_tables.specs.Groupings.{IsReady, view_of}
-use Rattle.group_tables.specs.Rows.{rows_between}
+use Rattle.group_tables.specs.proving.Rows.{rows_between}
 use Rattle.group_tables.specs.declared.grouping.Grouping.{Grouping}
 use Rattle.group_tables.proofs.Agreeing.{all-below, all-few, each-all, key-columns, key-types, keys-below, rows-fit, rows_in}
 use Rattle.group_tables.proofs.TableLaws.{all-narrow, view-legal}

@@ -13,9 +13,9 @@ use Rattle.group_keys.specs.Sets.{IsSetOf, Places, count_in}
 use Rattle.group_keys.specs.declared.key_set.KeySet.{KeySet}
 use Rattle.state_columns.specs.Trees.{trees_in}
 use Rattle.state_columns.specs.declared.column.StateColumn.{StateColumn}
-use Rattle.group_tables.specs.Fed.{AreFed}
+use Rattle.group_tables.specs.proving.Fed.{AreFed}
 use Rattle.group_tables.specs.Groupings.{IsReady}
-use Rattle.group_tables.specs.Rows.{rows_between}
+use Rattle.group_tables.specs.proving.Rows.{rows_between}
 use Rattle.group_tables.specs.Tables.{AreColumns, IsTableOf, TakesRowsOf}
 use Rattle.group_tables.specs.declared.grouping.GroupCall.{GroupCall}
 use Rattle.group_tables.specs.declared.grouping.Grouping.{Grouping}

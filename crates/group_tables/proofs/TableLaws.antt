@@ -34,10 +34,10 @@ use Rattle.table_words.specs.Tables.{IsTable, keys_in, same_tuple, tree_at}
 use Rattle.table_words.proofs.Fed.{rows_are_fed, tuples}
 use Rattle.table_words.proofs.KeysWith.{length-keys_with, place_within}
 use Rattle.group_tables.specs.Calls.{call_of, calls_of}
-use Rattle.group_tables.specs.Fed.{AreFed, AreFresh, IsFed}
+use Rattle.group_tables.specs.proving.Fed.{AreFed, AreFresh, IsFed}
 use Rattle.group_tables.specs.Groupings.{view_of}
 use Rattle.group_tables.specs.Tables.{AreColumns, AreTables, IsTableOf, TakesRowsOf, trees_of}
-use Rattle.group_tables.specs.Rows.{rows_between}
+use Rattle.group_tables.specs.proving.Rows.{rows_between}
 use Rattle.group_tables.specs.declared.grouping.GroupCall.{GroupCall}
 use Rattle.group_tables.specs.declared.grouping.Grouping.{Grouping}
 use Rattle.group_tables.specs.declared.table.GroupTable.{GroupTable}

@@ -1,5 +1,4 @@
 pub mod Calls
 pub mod Groupings
-pub mod Fed
-pub mod Rows
 pub mod Tables
+pub mod proving

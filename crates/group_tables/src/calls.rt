@@ -3,7 +3,7 @@ ghost use Rattle.std.specs.Prelude.{◌≡◌, ◌<◌, ◌≤◌, ◌-◌, All,
 ghost use Rattle.chain_states.specs.Calls.{argument_rows};
 ghost use Rattle.state_columns.specs.Trees.{IsColumnOf, trees_in};
 ghost use Rattle.group_tables.specs.Tables.{AreColumns};
-ghost use Rattle.group_tables.specs.Fed.{AreFed, IsFed, IsFresh, AreFresh};
+ghost use Rattle.group_tables.specs.proving.Fed.{AreFed, IsFed, IsFresh, AreFresh};
 
 use crate::grouping::GroupCall;
 use state_columns::StateColumn;

@@ -23,7 +23,7 @@ impl GroupTable {
     ghost use Rattle.columns.specs.Rows.{AreTyped};
     ghost use Rattle.group_keys.specs.Sets.{count_in};
     ghost use Rattle.group_tables.specs.Groupings.{IsReady};
-    ghost use Rattle.group_tables.specs.Rows.{rows_between};
+    ghost use Rattle.group_tables.specs.proving.Rows.{rows_between};
     ghost use Rattle.group_tables.specs.Tables.{AreTables, IsTableOf, TakesRowsOf};
 
     /// The table of no rows. Without GROUP BY it has the group of the empty tuple.

@@ -1,7 +1,7 @@
 use Rattle.std.proofs.Common.{◌≡◌, ◌++◌, ◌-◌, ◌∙◌, ap, length, replicate, subst}
 use Rattle.chain_states.specs.Calls.{argument_rows}
 use Rattle.state_columns.specs.Trees.{blank_in, trees_in}
-use Rattle.group_tables.specs.Fed.{IsFed}
+use Rattle.group_tables.specs.proving.Fed.{IsFed}
 use Rattle.group_tables.proofs.CallColumns.{fed-call, ok_then}
 use Rattle.group_tables.proofs.calls.feed_call.Goals as goal
 

@@ -2,7 +2,7 @@ use Rattle.std.proofs.Common.{◌≡◌, ◌≤◌, ◌-◌, ◌∙◌, ap, leng
 use Rattle.std.specs.List.{All, slice_range}
 use Rattle.columns.specs.Rows.{AreTyped}
 use Rattle.columns.proofs.Rows.{count_rows}
-use Rattle.group_tables.specs.Rows.{rows_between}
+use Rattle.group_tables.specs.proving.Rows.{rows_between}
 use Rattle.group_tables.specs.Tables.{TakesRowsOf}
 use Rattle.group_tables.proofs.CallColumns.{ok_then}
 use Rattle.group_tables.proofs.Facts.{long-enough, rows-are}

@@ -2,7 +2,7 @@ use Rattle.std.proofs.Common.{◌≡◌, get_or, map, subst}
 use Rattle.group_keys.specs.Sets.{Holds, first_keys}
 use Rattle.state_columns.specs.Trees.{trees_in}
 use Rattle.value_types.specs.declared.ty.Ty.TheVariants as rust
-use Rattle.group_tables.specs.Fed.{AreFresh}
+use Rattle.group_tables.specs.proving.Fed.{AreFresh}
 use Rattle.group_tables.specs.Tables.{AreColumns}
 use Rattle.group_tables.proofs.TableLaws.{fresh-tables}
 use Rattle.group_tables.proofs.table.GroupTable.new.Goals as goal

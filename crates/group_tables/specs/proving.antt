@@ -1,0 +1,3 @@
+-- What only serves proofs: no public contract stands on it.
+pub mod Fed
+pub mod Rows
