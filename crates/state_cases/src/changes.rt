@@ -30,19 +30,43 @@ fn is_among(fault: StateFault, length: usize) -> bool {
     }
 }
 
+/// Where one change led.
+#[derive(Clone, Copy)]
+enum Change {
+    Read,
+    Refused,
+    Wrong,
+}
+
+/// Where a change led that gave these bytes.
+fn change_of(alloc: Global, ty: &Ty, bytes: &[u8]) -> Result<Change, RunFault>
+    requires { IsLegalState (ty_of ty.now) }
+{
+    match written_back(alloc, ty, bytes) {
+        Ok(written) if written.as_slice() == bytes => Ok(Change::Read),
+        Err(StateReadFault::Bad(fault)) if is_among(fault, bytes.len()) => Ok(Change::Refused),
+        Err(StateReadFault::OutOfMemory) => Err(RunFault::OutOfMemory),
+        _ => Ok(Change::Wrong),
+    }
+}
+
 impl Changes {
-    /// Counts where one change led.
-    fn count(&mut self, alloc: Global, ty: &Ty, bytes: &[u8]) -> Result<(), RunFault>
-        requires { IsLegalState (ty_of ty.now) }
-    {
-        let place = match written_back(alloc, ty, bytes) {
-            Ok(written) if written.as_slice() == bytes => &mut self.read,
-            Err(StateReadFault::Bad(fault)) if is_among(fault, bytes.len()) => &mut self.refused,
-            Err(StateReadFault::OutOfMemory) => return Err(RunFault::OutOfMemory),
-            _ => &mut self.wrong,
-        };
-        *place = place.saturating_add(1);
-        Ok(())
+    /// These and one more.
+    fn with(self, change: Change) -> Changes {
+        match change {
+            Change::Read => Changes {
+                read: self.read.saturating_add(1),
+                ..self
+            },
+            Change::Refused => Changes {
+                refused: self.refused.saturating_add(1),
+                ..self
+            },
+            Change::Wrong => Changes {
+                wrong: self.wrong.saturating_add(1),
+                ..self
+            },
+        }
     }
 }
 
@@ -69,7 +93,7 @@ pub(crate) fn all_changes(alloc: Global, ty: &Ty, bytes: &[u8]) -> Result<Change
         let byte = bytes[at];
         for other in [byte.wrapping_add(1), byte ^ 0x80, 0x00, 0xff] {
             let changed = with_byte(alloc, bytes, at, other)?;
-            changes.count(alloc, ty, changed.as_slice())?;
+            changes = changes.with(change_of(alloc, ty, changed.as_slice())?);
         }
     }
     Ok(changes)
