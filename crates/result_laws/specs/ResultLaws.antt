@@ -1,4 +1,4 @@
--- What a legal chain means is a value of its result type.
+-- What the meaning of a legal chain is, where the numbers of its argument types have the widths that there are.
 use Rattle.std.specs.Prelude.{IsTrue, List}
 use Rattle.agg_terms.specs.Chains.{Chain, Ty}
 use Rattle.agg_terms.specs.Fitting.{fits_value}

@@ -1,0 +1,6 @@
+pub mod Wide
+pub mod Fitted
+pub mod Funnels
+pub mod Functions
+pub mod Links
+pub mod Meanings
