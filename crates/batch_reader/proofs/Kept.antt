@@ -1,5 +1,6 @@
 -- What is kept of rows.
 use Rattle.std.proofs.Common.{◌≡◌, add-one, ℕ, zero, suc, ◌+◌, ◌<◌, Bool, true, false, List, [], ◌∷◌, ◌++◌, Ok, Err, length, take, get_or, refl, sym, ap, ◌∙◌, arith, subst}
+use Rattle.std.specs.List.{list_all}
 use Rattle.std.proofs.lemmas.List.{map-append}
 use Rattle.value_types.specs.declared.ty.Ty.{Ty}
 use Rattle.value_types.specs.declared.value.Value.{Value}
@@ -39,6 +40,20 @@ fit-count [] [] h = refl
 fit-count [] (v ∷ row) h = absurd h
 fit-count (t ∷ types) [] h = absurd h
 fit-count (t ∷ types) (v ∷ row) h = omega (arith, fit-count types row h.1)
+
+-- where all are kept
+pub kept-whole : {A : Type 0} (keep : List Bool) (row : List A) → list_all (λ mark. mark) keep ≡ true → length keep ≡ length row → kept keep row ≡ row
+kept-whole [] [] all same = refl
+kept-whole [] (w ∷ row) all same = absurd (omega (arith, same))
+kept-whole (k ∷ keep) [] all same = absurd (omega (arith, same))
+kept-whole (true ∷ keep) (w ∷ row) all same = ap (λ more. w ∷ more) (kept-whole keep row all (omega (arith, same)))
+kept-whole (false ∷ keep) (w ∷ row) all same = absurd cc
+
+pub whole-fits : (keep : List Bool) (types : List Ty) (row : List Value) → list_all (λ mark. mark) keep ≡ true → length keep ≡ length types → RowFits types row → RowFits (kept keep types) row
+whole-fits keep types row all same h = subst (λ ts. RowFits ts row) (sym (kept-whole keep types all same)) h
+
+pub whole-row : (keep : List Bool) (types : List Ty) (row : List Value) → list_all (λ mark. mark) keep ≡ true → length keep ≡ length types → RowFits types row → row ≡ kept keep row
+whole-row keep types row all same h = sym (kept-whole keep row all (same ∙ sym (fit-count types row h)))
 
 pub ruleset kept_laws = (kept_fits, fit-count)
 

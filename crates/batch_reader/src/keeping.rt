@@ -1,5 +1,6 @@
 //! The rows of lines of which only some columns are kept: every field of every line is judged.
 ghost use Rattle.std.specs.Prelude.{◌≡◌, ◌<◌, ◌^◌, ◌++◌, ◌∷◌, [], length, IfOk, OnErr, OnOk};
+ghost use Rattle.std.specs.List.{list_all};
 ghost use Rattle.tsv_text.specs.Lines.{lines_of};
 ghost use Rattle.columns.specs.Rows.{RowFits, no_rows, with_row};
 ghost use Rattle.row_texts.specs.Rows.{AreReadable};
@@ -40,6 +41,12 @@ fn kept_values(alloc: Global, keep: &[bool], row: &[Value]) -> Result<Seq<Value>
     Ok(values)
 }
 
+fn are_all_kept(keep: &[bool]) -> bool
+    ensures { result ≡ list_all (λ mark. mark) keep.now }
+{
+    keep.iter().all(|mark| *mark)
+}
+
 // The kept values of a row.
 #[tactic(auto, using(crate::proofs::Kept::kept_laws))]
 fn push_kept(
@@ -55,6 +62,9 @@ fn push_kept(
     ensures ok { OnOk result (batch.new ≡ with_row batch.old (kept keep.now row.now)) }
     ensures err { OnErr result (batch.new ≡ batch.old) }
 {
+    if are_all_kept(keep) {
+        return batch.push_row(alloc, row);
+    }
     match kept_values(alloc, keep, row) {
         Ok(values) => batch.push_row(alloc, values.as_slice()),
         Err(error) => Err(error),
@@ -104,7 +114,7 @@ fn keep_line<R: StateReader>(
     requires types { batch.old.types ≡ kept keep.now types.now }
     ensures { KeepsLine (R.reads reader.now) types.now keep.now batch.old line.now batch.new result }
 {
-    match take_kept(batch, alloc, types, keep, steps, line) {
+    match take_kept(batch, alloc, reader, types, keep, steps, line) {
         Ok(Taken::Row) => Ok(()),
         Ok(Taken::Irregular) => keep_judged(alloc, reader, types, keep, steps, line, batch),
         Err(_) => Err(LineRefusal::OutOfMemory),

@@ -121,6 +121,7 @@ array_step of (step.Numbers k) h = (refl, ap ty.Arr h)
 array_step of step.Texts h = (refl, ap ty.Arr h)
 array_step of (step.NullableNumber k) h = absurd h
 array_step of step.NullableText h = absurd h
+array_step of step.State h = absurd h
 array_step of step.Leave h = refl
 
 pub nullable_means : (of : Ty) (s : Step) → IsNullableStep of s → IsStep (ty.Nullable of) false s
@@ -131,6 +132,7 @@ nullable_means of (step.Numbers k) h = absurd h
 nullable_means of step.Texts h = absurd h
 nullable_means of (step.NullableNumber k) h = (refl, ap ty.Nullable h)
 nullable_means of step.NullableText h = (refl, ap ty.Nullable h)
+nullable_means of step.State h = absurd h
 nullable_means of step.Leave h = refl
 
 pub step_at : (types : List Ty) (keep : List Bool) (steps : List Step) (i : ℕ) (t : Ty) (k : Bool) (s : Step) → AreSteps types keep steps → i < length types → IsStep (get_or types i t) (get_or keep i k) (get_or steps i s)

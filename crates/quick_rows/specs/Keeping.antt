@@ -1,6 +1,7 @@
 -- What it means that a line was taken into columns of some of its fields, and what is done with each field.
 use Rattle.std.specs.Prelude.{◌≡◌, Bool, true, false, List, ℕ, [], ◌∷◌, map, Result, Ok, Err}
 use Rattle.value_lists.specs.declared.out_of_memory.OutOfMemory.{OutOfMemory}
+use Rattle.value_types.specs.declared.chain.Chain.{Chain}
 use Rattle.value_types.specs.declared.ty.Ty.{Ty}
 use Rattle.value_types.specs.declared.ty.Ty.TheVariants as ty
 use Rattle.value_types.specs.declared.value.Value.{Value}
@@ -11,7 +12,12 @@ use Rattle.quick_rows.specs.declared.row.Taken.{Taken}
 use Rattle.quick_rows.specs.declared.row.Taken.TheVariants.{Row, Irregular}
 use Rattle.quick_rows.specs.declared.walk.Step.{Step}
 use Rattle.quick_rows.specs.declared.walk.Step.TheVariants as step
-use Rattle.quick_rows.specs.Taking.{AreSaid}
+use Rattle.scalar_texts.specs.States.{ReadsStates}
+use Rattle.quick_rows.specs.Taking.{SaysBy}
+
+-- a type of states
+abbrev pub IsState : Ty → Type 0
+IsState t = (chain : Chain) × (args : List Ty) × (t ≡ ty.State chain args)
 
 -- what may be done with the fields of a type that are kept, or aren't
 abbrev pub IsStep : Ty → Bool → Step → Type 0
@@ -22,6 +28,7 @@ IsStep t keep (step.Numbers kind) = (keep ≡ false) × (t ≡ ty.Arr (number_ty
 IsStep t keep step.Texts = (keep ≡ false) × (t ≡ ty.Arr ty.Str)
 IsStep t keep (step.NullableNumber kind) = (keep ≡ false) × (t ≡ ty.Nullable (number_ty kind))
 IsStep t keep step.NullableText = (keep ≡ false) × (t ≡ ty.Nullable ty.Str)
+IsStep t keep step.State = (keep ≡ false) × IsState t
 IsStep t keep step.Leave = keep ≡ false
 
 -- a step for each type, as its column is marked
@@ -41,8 +48,14 @@ kept (false ∷ keep) (x ∷ xs) = kept keep xs
 abbrev pub kept_rows : List Bool → Rows → Rows
 kept_rows keep batch = record { types = kept keep batch.types; rows = map (kept keep) batch.rows }
 
+-- one field and one value for each type, and each field says the value at its place, by what reads the states
+abbrev pub AreSaidBy : ReadsStates → List Ty → List (List ℕ) → List Value → Type 0
+AreSaidBy reads [] [] [] = Unit {0}
+AreSaidBy reads (t ∷ ts) (f ∷ fs) (v ∷ vs) = SaysBy reads t f v × AreSaidBy reads ts fs vs
+AreSaidBy reads _ _ _ = ⊥
+
 -- the kept values of the line's row stand at the end of the batch, or the batch is as before
-abbrev pub TakesKept : List Ty → List Bool → Rows → List ℕ → Rows → Result Taken OutOfMemory → Type 0
-TakesKept types keep batch line after (Ok Row) = (row : List Value) × AreSaid types (fields_of line) row × (after ≡ with_row batch (kept keep row))
-TakesKept types keep batch line after (Ok Irregular) = after ≡ batch
-TakesKept types keep batch line after (Err fault) = after ≡ batch
+abbrev pub TakesKept : ReadsStates → List Ty → List Bool → Rows → List ℕ → Rows → Result Taken OutOfMemory → Type 0
+TakesKept reads types keep batch line after (Ok Row) = (row : List Value) × AreSaidBy reads types (fields_of line) row × (after ≡ with_row batch (kept keep row))
+TakesKept reads types keep batch line after (Ok Irregular) = after ≡ batch
+TakesKept reads types keep batch line after (Err fault) = after ≡ batch

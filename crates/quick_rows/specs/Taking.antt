@@ -32,9 +32,13 @@ is_plain text = list_all (λ b. not (b == 92)) text
 abbrev pub AreBytes : List ℕ → Type 0
 AreBytes text = list_all (λ b. nat_lt b (2 ^ 8)) text ≡ true
 
--- the whole field says the value, whatever reads the states
+-- the whole field says the value, by what reads the states
+abbrev pub SaysBy : ReadsStates → Ty → List ℕ → Value → Type 0
+SaysBy reads ty field v = IsFieldAnswer reads (ty_of ty) field (Ok v)
+
+-- the same, whatever reads the states
 abbrev pub Says : Ty → List ℕ → Value → Type 0
-Says ty field v = (reads : ReadsStates) → IsFieldAnswer reads (ty_of ty) field (Ok v)
+Says ty field v = (reads : ReadsStates) → SaysBy reads ty field v
 
 -- the same of a field that isn't `\N`
 abbrev pub SaysFilled : Ty → List ℕ → Value → Type 0

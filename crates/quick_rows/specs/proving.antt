@@ -1,2 +1,3 @@
 -- What only serves proofs: no public contract stands on it.
+pub mod Hexadecimal
 pub mod Walking

@@ -1,16 +1,21 @@
 //! The first field of a text into its column, in one pass.
 ghost use Rattle.std.specs.Prelude.{◌≡◌, ◌==◌, false, length, slice_index};
+ghost use Rattle.scalar_texts.specs.States.{AllStates};
 ghost use Rattle.typed_columns.specs.Masks.{masked};
+ghost use Rattle.value_types.specs.Folds.{ty_of};
 ghost use Rattle.value_types.specs.declared.ty.Ty.TheVariants as ty;
 ghost use Rattle.quick_rows.specs.Taking.{TakesField, TakesFilled, TakesFirst, TakesNumber, TakesText};
+ghost use Rattle.quick_rows.specs.proving.Walking.{TakesBy};
 
 use crate::list::take_list;
 use crate::number::{front_number, front_size};
 use crate::quoted::first_plain;
+use crate::state::take_state;
 use column_parts::{Numbers, Texts};
+use scalar_texts::StateReader;
 use std::alloc::Global;
 use typed_columns::{Column, Kind};
-use value_types::OutOfMemory;
+use value_types::{OutOfMemory, Ty};
 
 /// What became of a front of a text, which has no tab.
 #[derive(Clone, Copy)]
@@ -39,6 +44,25 @@ pub(crate) fn take_first<'a>(
         Kind::Nullable(_, _) | Kind::Maps(_, _, _) | Kind::Cells(_, _, _) => {}
     }
     take_nullable(column, alloc, text)
+}
+
+/// The same of a column of the type; a state is read too.
+#[inline(always)]
+pub(crate) fn keep_first<'a, R: StateReader>(
+    column: &mut Column,
+    alloc: Global,
+    reader: &R,
+    ty: &Ty,
+    text: &'a [u8],
+) -> Result<Front<'a>, OutOfMemory>
+    requires readable { AllStates (R.takes reader.now) (ty_of ty.now) }
+    requires ty { ty.now ≡ column.old.ty }
+    ensures { TakesFirst (TakesBy (R.reads reader.now)) column.old text.now column.new result }
+{
+    if let Kind::Cells(_, _, trees) = &mut column.kind {
+        return take_state(trees, alloc, reader, ty, text);
+    }
+    take_first(column, alloc, text)
 }
 
 /// The same of a column that may hold NULL. Any other is left as it is.

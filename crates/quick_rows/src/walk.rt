@@ -27,6 +27,8 @@ pub enum Step {
     /// The same of numbers and strings that may be NULL.
     NullableNumber(NumberType),
     NullableText,
+    /// States are read and dropped.
+    State,
     /// The slow judge has them.
     Leave,
 }
@@ -45,6 +47,7 @@ pub fn step_of(ty: &Ty, keep: bool) -> Step
         Ty::Str => Step::Text,
         Ty::Arr(of) => step_of_array(of.get()),
         Ty::Nullable(of) => step_of_nullable(of.get()),
+        Ty::State(_, _) => Step::State,
         _ => Step::Leave,
     }
 }
@@ -86,7 +89,7 @@ pub(crate) fn walk_first<'a>(step: Step, text: &'a [u8]) -> Front<'a>
         Step::Texts => walk_list(None, text),
         Step::NullableNumber(kind) => walk_nullable(Some(kind), text),
         Step::NullableText => walk_nullable(None, text),
-        Step::Keep | Step::Leave => Front::Irregular,
+        Step::Keep | Step::State | Step::Leave => Front::Irregular,
     }
 }
 

@@ -9,20 +9,20 @@ use Rattle.quick_rows.proofs.KeptRows.{kept_fits}
 use Rattle.quick_rows.proofs.kept.take_kept.Goals as goal
 
 pub invariant_of-batch : goal.invariant_of-batch
-invariant_of-batch c =
+invariant_of-batch g c =
     let cs = c.batch.inside.columns.items in
     let n = c.batch.inside.count in
-    let filled = subst (λ b. FillsKept n c.args.types.now c.args.keep.now cs c.args.line.now c.fill_kept.new.columns.items (Ok b)) c.in-Ok-true.field-0-test c.in-Ok-true.ensures in
+    let filled = subst (λ b. FillsKept (g.R.StateReader.reads c.args.reader.now) n c.args.types.now c.args.keep.now cs c.args.line.now c.fill_kept.new.columns.items (Ok b)) c.in-Ok-true.field-0-test c.in-Ok-true.ensures in
     let row = kept c.args.keep.now filled.0 in
     let of = ap (λ b. b.types) c.batch.view_is ∙ c.requires.types in
     let fits = subst (λ (ts : List Ty). RowFits ts row) (sym of) (kept_fits c.args.keep.now c.args.types.now filled.0 filled.1) in
     subst (λ ds. AreLong ds (n + 1) × AreTyped ds) (sym filled.3) (long_pushed cs row n c.batch.invariant.0 fits, typed_pushed cs row c.batch.invariant.1 fits)
 
 pub returns-in-Ok-true : goal.returns-in-Ok-true
-returns-in-Ok-true c =
+returns-in-Ok-true g c =
     let cs = c.batch.inside.columns.items in
     let n = c.batch.inside.count in
-    let filled = subst (λ b. FillsKept n c.args.types.now c.args.keep.now cs c.args.line.now c.fill_kept.new.columns.items (Ok b)) c.in-Ok-true.field-0-test c.in-Ok-true.ensures in
+    let filled = subst (λ b. FillsKept (g.R.StateReader.reads c.args.reader.now) n c.args.types.now c.args.keep.now cs c.args.line.now c.fill_kept.new.columns.items (Ok b)) c.in-Ok-true.field-0-test c.in-Ok-true.ensures in
     let row = kept c.args.keep.now filled.0 in
     let of = ap (λ b. b.types) c.batch.view_is ∙ c.requires.types in
     let fits = subst (λ (ts : List Ty). RowFits ts row) (sym of) (kept_fits c.args.keep.now c.args.types.now filled.0 filled.1) in
