@@ -1,90 +1,38 @@
 //! Rows of columns fed to states by their places: the chain is judged once, then one loop.
-ghost use Rattle.std.specs.Prelude.{◌≡◌, ◌<◌, ◌≤◌, ◌-◌, ◌++◌, ◌∷◌, [], false, true, All, length, map, IfOk, IsTrue, OnOk};
+ghost use Rattle.std.specs.Prelude.{◌≡◌, ◌<◌, ◌≤◌, ◌-◌, ◌++◌, ◌∷◌, [], false, true, All, length, map, IfOk, IfSome, IsTrue, OnOk};
 ghost use Rattle.agg_terms.specs.Chains.{If};
 ghost use Rattle.agg_terms.specs.Lists.{Each};
 ghost use Rattle.agg_meaning.specs.Lawful.{IsSound};
-ghost use Rattle.agg_meaning.specs.Functions.{arg};
-ghost use Rattle.agg_meaning.specs.Views.{items_at};
 ghost use Rattle.agg_typing.specs.Legal.{function_of};
-ghost use Rattle.typed_columns.specs.Items.{item_value};
-ghost use Rattle.value_types.specs.Folds.{chain_of, ty_of, value_of};
+ghost use Rattle.value_types.specs.Folds.{chain_of, ty_of};
 ghost use Rattle.running_states.specs.Served.{is_served};
-ghost use Rattle.running_states.specs.Shapes.{IsState};
-ghost use Rattle.running_states.specs.Words.{Feeds};
-ghost use Rattle.chain_states.specs.Calls.{AddsFresh, IsStateOf, TakeByPlace, argument_rows, batch_row};
-ghost use Rattle.chain_states.specs.proving.Places.{AreStates, FeedsAt, IsConditions};
+ghost use Rattle.chain_states.specs.Calls.{AddsFresh, IsStateOf, TakeByPlace, argument_rows};
+ghost use Rattle.chain_states.specs.proving.Places.{AreStates, FeedsAt, IsConditions, IsFedAs, row_of, rows_from, with_condition, with_if};
 
+use crate::function_places::feed_few;
+use crate::lending::feed_lent;
 use crate::ready::ReadyCall;
 use crate::state::State;
-use chain_links::feed;
-use running_states::Running;
 use std::alloc::Global;
-use typed_columns::{Args, Column, Item};
+use typed_columns::Column;
 use value_types::{Chain, OutOfMemory, Ty};
 
-/// Lends the argument that columns have at a number.
-#[inline]
-#[tactic(auto, using(crate::proofs::Lent::item_laws))]
-fn lend_item<'a>(columns: &'a [Column], argument: u32, number: usize) -> Item<'a>
-    requires column { argument < length columns.now }
-    requires within { All (λ c. number < length c.values) columns.now }
-    ensures { value_of (item_value result) ≡ arg argument (batch_row columns.now number) }
+/// The chain inside of suffixes that keep what it keeps and take rows as it does.
+#[tactic(auto, using(crate::proofs::Inside::as_itself))]
+fn inside(chain: &Chain) -> &Chain
+    ensures { IsFedAs (chain_of chain.now) (chain_of result.now) }
 {
-    columns[argument as usize].item(number)
-}
-
-/// Lends the row of arguments that columns have at a number.
-#[inline]
-#[tactic(auto, using(crate::proofs::Lent::lent_laws))]
-fn lend_row<'a>(columns: &'a [Column], arguments: &[u32], number: usize, row: &mut Args<'a>)
-    requires few { length arguments.now ≤ 64 }
-    requires columns { All (λ a. a < length columns.now) arguments.now }
-    requires within { All (λ c. number < length c.values) columns.now }
-    ensures { map value_of row.new ≡ items_at arguments.now (batch_row columns.now number) }
-{
-    row.clear();
-    for i in 0..arguments.len() {
-        row.push(lend_item(columns, arguments[i], number));
+    match chain {
+        Chain::OrNull(of) => inside(of.get()),
+        Chain::OrDefault(of) => inside(of.get()),
+        Chain::State(of) => inside(of.get()),
+        _ => chain,
     }
 }
 
-/// Feeds the row of arguments that columns have at a number. One argument alone is lent with no list.
-#[inline]
-#[tactic(auto, using(crate::proofs::Lent::row_laws))]
-fn feed_row<'a>(
-    chain: &Chain,
-    alloc: Global,
-    types: &[Ty],
-    state: &mut Running,
-    columns: &'a [Column],
-    arguments: &[u32],
-    number: usize,
-    row: &mut Args<'a>,
-) -> Result<(), OutOfMemory>
-    requires sound { IsSound (chain_of chain.now) }
-    requires served { is_served (function_of (chain_of chain.now)) (map ty_of types.now) ≡ true }
-    requires shape { IsState (chain_of chain.now) (map ty_of types.now) state.old }
-    requires few { length arguments.now ≤ 64 }
-    requires columns { All (λ a. a < length columns.now) arguments.now }
-    requires within { All (λ c. number < length c.values) columns.now }
-    ensures shape { OnOk result (IsState (chain_of chain.now) (map ty_of types.now) state.new) }
-    ensures row { OnOk result (Feeds (chain_of chain.now) (map ty_of types.now) (items_at arguments.now (batch_row columns.now number)) state.old state.new) }
-{
-    match arguments {
-        [only] => {
-            let item = lend_item(columns, *only, number);
-            feed(chain, alloc, types, state, &[item])
-        }
-        _ => {
-            lend_row(columns, arguments, number, row);
-            let _count = row.len();
-            feed(chain, alloc, types, state, row.as_slice())
-        }
-    }
-}
-
-/// Feeds rows to states of any chain.
-fn feed_all(
+/// Feeds rows to states of a chain, but for those left out, by the loop that its function and its arguments ask for.
+#[tactic(auto, using(value_types::proofs::FoldLaws::chain_laws))]
+fn feed_kept(
     chain: &Chain,
     alloc: Global,
     types: &[Ty],
@@ -92,6 +40,7 @@ fn feed_all(
     places: &[u32],
     columns: &[Column],
     arguments: &[u32],
+    conditions: Option<&[u8]>,
     from: usize,
     to: usize,
 ) -> Result<(), OutOfMemory>
@@ -104,24 +53,52 @@ fn feed_all(
     requires few { length arguments.now ≤ 64 }
     requires columns { All (λ a. a < length columns.now) arguments.now }
     requires within { All (λ c. to ≤ length c.values) columns.now }
+    requires conditions { IfSome conditions (λ all. to ≤ length all.now) }
     ensures shape { OnOk result (AreStates (chain_of chain.now) (map ty_of types.now) states.new.items) }
-    ensures rows { OnOk result (FeedsAt (chain_of chain.now) (map ty_of types.now) places.now (argument_rows columns.now arguments.now from (to - from)) states.old.items states.new.items) }
+    ensures rows { OnOk result (FeedsAt (with_if conditions.entry (chain_of chain.now)) (map ty_of types.now) places.now (rows_from (with_condition (λ all. all.now) conditions.entry (row_of columns.now arguments.now)) from (to - from)) states.old.items states.new.items) }
 {
-    let mut row = Args::new();
-    for i in 0..places.len() {
-        let state = &mut states[places[i] as usize].running;
-        feed_row(
-            chain,
-            alloc,
-            types,
-            state,
-            columns,
-            arguments,
-            from + i,
-            &mut row,
-        )?;
+    if let Chain::Leaf(leaf) = chain {
+        if feed_few(
+            leaf, alloc, types, states, places, columns, arguments, conditions, from, to,
+        )? {
+            return Ok(());
+        }
     }
-    Ok(())
+    feed_lent(
+        chain, alloc, types, states, places, columns, arguments, conditions, from, to,
+    )
+}
+
+/// Feeds rows to states of a chain, but for those left out.
+fn feed_rows(
+    chain: &Chain,
+    alloc: Global,
+    types: &[Ty],
+    states: &mut Vec<State>,
+    places: &[u32],
+    columns: &[Column],
+    arguments: &[u32],
+    conditions: Option<&[u8]>,
+    from: usize,
+    to: usize,
+) -> Result<(), OutOfMemory>
+    requires sound { IsSound (chain_of chain.now) }
+    requires served { is_served (function_of (chain_of chain.now)) (map ty_of types.now) ≡ true }
+    requires shape { AreStates (chain_of chain.now) (map ty_of types.now) states.old.items }
+    requires places { All (λ p. p < length states.old.items) places.now }
+    requires order { from ≤ to }
+    requires count { length places.now ≡ to - from }
+    requires few { length arguments.now ≤ 64 }
+    requires columns { All (λ a. a < length columns.now) arguments.now }
+    requires within { All (λ c. to ≤ length c.values) columns.now }
+    requires conditions { IfSome conditions (λ all. to ≤ length all.now) }
+    ensures shape { OnOk result (AreStates (chain_of chain.now) (map ty_of types.now) states.new.items) }
+    ensures rows { OnOk result (FeedsAt (with_if conditions.entry (chain_of chain.now)) (map ty_of types.now) places.now (rows_from (with_condition (λ all. all.now) conditions.entry (row_of columns.now arguments.now)) from (to - from)) states.old.items states.new.items) }
+{
+    let inner = inside(chain);
+    feed_kept(
+        inner, alloc, types, states, places, columns, arguments, conditions, from, to,
+    )
 }
 
 /// Feeds the rows whose condition is met: a condition is read in its own column, before its row is lent.
@@ -152,24 +129,18 @@ fn feed_where(
     ensures shape { OnOk result (AreStates (chain_of of.now) (map ty_of types.now) states.new.items) }
     ensures rows { OnOk result (FeedsAt (If (chain_of of.now)) (map ty_of types.now) places.now (argument_rows columns.now (arguments.now ++ condition ∷ []) from (to - from)) states.old.items states.new.items) }
 {
-    let mut row = Args::new();
-    for i in 0..places.len() {
-        if conditions[from + i] == 0 {
-            continue;
-        }
-        let state = &mut states[places[i] as usize].running;
-        feed_row(
-            of,
-            alloc,
-            types,
-            state,
-            columns,
-            arguments,
-            from + i,
-            &mut row,
-        )?;
-    }
-    Ok(())
+    feed_rows(
+        of,
+        alloc,
+        types,
+        states,
+        places,
+        columns,
+        arguments,
+        Some(conditions),
+        from,
+        to,
+    )
 }
 
 /// Feeds rows to states of a chain with a condition that is no Nullable; false where it is one.
@@ -212,9 +183,9 @@ fn feed_if(
     }
 }
 
-/// Feeds rows to states of a chain.
+/// Feeds rows to states of a chain; those with a condition by it.
 #[tactic(auto, using(value_types::proofs::FoldLaws::chain_laws))]
-fn feed_chain(
+fn feed_inner(
     chain: &Chain,
     alloc: Global,
     types: &[Ty],
@@ -252,8 +223,38 @@ fn feed_chain(
             return Ok(());
         }
     }
-    feed_all(
-        chain, alloc, types, states, places, columns, arguments, from, to,
+    feed_rows(
+        chain, alloc, types, states, places, columns, arguments, None, from, to,
+    )
+}
+
+/// Feeds rows to states of a chain.
+fn feed_chain(
+    chain: &Chain,
+    alloc: Global,
+    types: &[Ty],
+    states: &mut Vec<State>,
+    places: &[u32],
+    columns: &[Column],
+    arguments: &[u32],
+    from: usize,
+    to: usize,
+) -> Result<(), OutOfMemory>
+    requires sound { IsSound (chain_of chain.now) }
+    requires served { is_served (function_of (chain_of chain.now)) (map ty_of types.now) ≡ true }
+    requires shape { AreStates (chain_of chain.now) (map ty_of types.now) states.old.items }
+    requires places { All (λ p. p < length states.old.items) places.now }
+    requires order { from ≤ to }
+    requires count { length places.now ≡ to - from }
+    requires few { length arguments.now ≤ 64 }
+    requires columns { All (λ a. a < length columns.now) arguments.now }
+    requires within { All (λ c. to ≤ length c.values) columns.now }
+    ensures shape { OnOk result (AreStates (chain_of chain.now) (map ty_of types.now) states.new.items) }
+    ensures rows { OnOk result (FeedsAt (chain_of chain.now) (map ty_of types.now) places.now (argument_rows columns.now arguments.now from (to - from)) states.old.items states.new.items) }
+{
+    let inner = inside(chain);
+    feed_inner(
+        inner, alloc, types, states, places, columns, arguments, from, to,
     )
 }
 

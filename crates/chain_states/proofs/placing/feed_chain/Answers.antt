@@ -1,9 +1,8 @@
 -- Answers for chain_states::placing::feed_chain.
-use Rattle.chain_states.proofs.ByPlace.{inner_states, outer_states}
+use Rattle.std.proofs.Common.{map}
+use Rattle.value_types.specs.Folds.{chain_of, ty_of}
+use Rattle.chain_states.proofs.Inside.{chain_outward}
 use Rattle.chain_states.proofs.placing.feed_chain.Goals as goal
 
-pub feed_if-requires-clause-shape : goal.feed_if-requires-clause-shape
-feed_if-requires-clause-shape c = inner_states _ _ _ _ _ c.in-If.is c.get.ensures c.requires.shape
-
-pub returns-then-branch-clause-shape : goal.returns-then-branch-clause-shape
-returns-then-branch-clause-shape c = outer_states _ _ _ _ _ c.in-If.is c.get.ensures c.in_ok-feed_if.ensures.shape
+pub returns-clause-rows : goal.returns-clause-rows
+returns-clause-rows c = chain_outward (chain_of c.args.chain.now) (chain_of c.inside-inner.result.now) c.inside-inner.ensures (map ty_of c.args.types.now) c.feed_inner.result _ _ _ _ c.feed_inner.ensures.rows
