@@ -93,7 +93,7 @@ lone (t ∷ []) h = refl
 lone (t ∷ u ∷ ts) h = absurd (not_one (fit_in 16 (t ∷ u ∷ ts)) h)
 
 -- ---- numbers
-length-plain : (ts : List terms.Ty) (vs : List Value) → list_all is_plain_number ts ≡ true → AreValues ts vs → length (values_bytes ts vs) ≡ total_width ts
+pub length-plain : (ts : List terms.Ty) (vs : List Value) → list_all is_plain_number ts ≡ true → AreValues ts vs → length (values_bytes ts vs) ≡ total_width ts
 length-plain [] [] h f = refl
 length-plain [] (v ∷ vs) h f = absurd f
 length-plain (t ∷ ts) [] h f = absurd f

@@ -45,6 +45,15 @@ placed-next eq start all keys new i k places more p before lt is n at on =
     subst (λ l. Placed eq start l new more) (sym (take_more all i k lt ∙ ap (λ x. take i all ++ x ∷ []) (sym is)))
     (placed-more eq start (take i all) keys new k places more p before n at on)
 
+-- the next of a list that is kept in another form
+pub placed-next-mapped : {X K : Type 0} (f : X → K) (eq : K → K → Bool) (start : List K) (all : List X) (keys new : List K) (i : ℕ) (x : X) (k : K) (places more : List ℕ) (p : ℕ) →
+    Placed eq start (map f (take i all)) keys places → i < length all → x ≡ get_or all i x → k ≡ f x → new ≡ insert_key eq keys k → p ≡ position_or_len (eq k) keys → more ≡ places ++ p ∷ [] →
+    Placed eq start (map f (take (i + 1) all)) new more
+placed-next-mapped f eq start all keys new i x k places more p before lt is here n at on =
+    subst (λ l. Placed eq start l new more)
+    (ap (λ y. map f (take i all) ++ y ∷ []) here ∙ sym (map_push f (take i all) x) ∙ ap (map f) (sym (take_more all i x lt ∙ ap (λ y. take i all ++ y ∷ []) (sym is))))
+    (placed-more eq start (map f (take i all)) keys new k places more p before n at on)
+
 pub each-push : {X : Type 0} (P : X → Type 0) (xs : List X) (x : X) → Each P xs → P x → Each P (xs ++ x ∷ [])
 each-push P [] x h p = (p, tt)
 each-push P (y ∷ xs) x h p = (h.0, each-push P xs x h.1 p)

@@ -2,3 +2,10 @@ pub mod KeyLists
 pub mod Codes
 pub mod Placing
 pub mod Rows
+pub mod Unpacked
+pub mod Merged
+pub mod Ordered
+pub mod Turned
+pub mod CodedOrder
+pub mod PackedOrder
+pub mod AllPlaced

@@ -37,7 +37,7 @@ on_both P Q (Ok x) p q = (p, q)
 on_both P Q (Err e) p q = tt
 
 -- ---- the rows are tuples
-each-both : {X : Type 0} (P Q R : X → Type 0) → ((x : X) → P x → Q x → R x) → (xs : List X) → Each P xs → Each Q xs → Each R xs
+pub each-both : {X : Type 0} (P Q R : X → Type 0) → ((x : X) → P x → Q x → R x) → (xs : List X) → Each P xs → Each Q xs → Each R xs
 each-both P Q R f [] p q = tt
 each-both P Q R f (x ∷ xs) p q = (f x p.0 q.0, each-both P Q R f xs p.1 q.1)
 
@@ -148,19 +148,20 @@ module _ (types : List Ty) (kinds : AreKeyTypes types) (rows : List (List Value)
         ∙ places_of-coded (bytes_by (kind_of (map ty_of types)) (map ty_of types)) same_tuple same_bytes (IsTuple types) (texts-agree types kinds) ks rows h.tuples all;
   }
 
-pub One-placed : (types : List Ty) (columns : List TypedValues) (keys : List ℕ) (from to : ℕ) → from ≤ to → AreKeyColumns types columns keys from to → (places : List ℕ) → places ≡ replicate (to - from) 0 →
-    Places types One One (key_tuples columns keys from (to - from)) places
-One-placed types columns keys from to order are places p = record {
+pub One-placed : (types : List Ty) (rows : List (List Value)) → Each (AreValues (map ty_of types)) rows → (places : List ℕ) → places ≡ replicate (length rows) 0 → Places types One One rows places
+One-placed types rows fit places p = record {
   holds = λ ks h. record { tuples = subst (Each (IsTuple types)) (sym (stays ks h)) h.tuples; keys = (h.keys.0, stays ks h ∙ h.keys.1) };
-  at = λ ks h.
-      p ∙ ap (λ n. replicate n 0) (sym (length-key_tuples columns keys from (to - from)))
-      ∙ sym (ap (λ l. places_of same_tuple l (key_tuples columns keys from (to - from))) h.keys.1 ∙ none-places (key_tuples columns keys from (to - from)) (no-values ks h));
+  at = λ ks h. p ∙ sym (ap (λ l. places_of same_tuple l rows) h.keys.1 ∙ none-places rows (no-values ks h));
 }
   where
-    no-values : (ks : List (List Value)) → Holds types One ks → Each (AreValues []) (key_tuples columns keys from (to - from))
-    no-values ks h = subst (λ ts. Each (AreValues (map ty_of ts)) (key_tuples columns keys from (to - from))) (nothing types h.keys.0) (rows-fit types columns keys from to order are)
+    no-values : (ks : List (List Value)) → Holds types One ks → Each (AreValues []) rows
+    no-values ks h = subst (λ ts. Each (AreValues (map ty_of ts)) rows) (nothing types h.keys.0) fit
 
-    stays : (ks : List (List Value)) → Holds types One ks → keys_with same_tuple ks (key_tuples columns keys from (to - from)) ≡ ks
-    stays ks h =
-        ap (λ l. keys_with same_tuple l (key_tuples columns keys from (to - from))) h.keys.1
-        ∙ none-keys (key_tuples columns keys from (to - from)) (no-values ks h) ∙ sym h.keys.1
+    stays : (ks : List (List Value)) → Holds types One ks → keys_with same_tuple ks rows ≡ ks
+    stays ks h = ap (λ l. keys_with same_tuple l rows) h.keys.1 ∙ none-keys rows (no-values ks h) ∙ sym h.keys.1
+
+pub One-rows : (types : List Ty) (columns : List TypedValues) (keys : List ℕ) (from to : ℕ) → from ≤ to → AreKeyColumns types columns keys from to → (places : List ℕ) → places ≡ replicate (to - from) 0 →
+    Places types One One (key_tuples columns keys from (to - from)) places
+One-rows types columns keys from to order are places p =
+    One-placed types (key_tuples columns keys from (to - from)) (rows-fit types columns keys from to order are) places
+    (p ∙ ap (λ n. replicate n 0) (sym (length-key_tuples columns keys from (to - from))))

@@ -48,3 +48,7 @@ count_in (Texts set) = length set.keys
 pub record Places (types : List rust.Ty) (old new : KeySet) (rows : List (List Value)) (places : List ℕ) : Type 0 where
   pub holds : (ks : List (List Value)) → Holds types old ks → Holds types new (keys_with same_tuple ks rows)
   pub at : (ks : List (List Value)) → Holds types old ks → places ≡ places_of same_tuple ks rows
+
+-- The keys of a later set behind those of another, and the place of each.
+pub record PlacesKeysOf (types : List rust.Ty) (old new later : KeySet) (places : List ℕ) : Type 0 where
+  pub each : (ls : List (List Value)) → Holds types later ls → Places types old new ls places

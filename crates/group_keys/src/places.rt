@@ -13,7 +13,7 @@ use value_types::OutOfMemory;
 
 /// A place as it is handed on: a table has no more than 2^32 groups.
 #[inline]
-fn narrow(place: usize) -> Result<u32, OutOfMemory>
+pub(crate) fn narrow(place: usize) -> Result<u32, OutOfMemory>
     ensures { IfOk result (λ narrow. narrow ≡ place) }
 {
     match u32::try_from(place) {
@@ -29,6 +29,18 @@ pub(crate) fn all_at_first(alloc: Global, count: usize) -> Result<Vec<u32>, OutO
     Ok(vec![in alloc; 0; count]?)
 }
 
+/// The place of a number; a new one goes last.
+pub(crate) fn place_number<N: Copy + Eq + Hash + Drop>(
+    set: &mut IndexSet<N, RandomState>,
+    number: N,
+) -> Result<u32, OutOfMemory>
+    ensures keys { OnOk result (set.new.keys ≡ insert_key N.eq set.old.keys number) }
+    ensures place { IfOk result (λ place. place ≡ position_or_len (N.eq number) set.old.keys) }
+{
+    let (place, _) = set.insert_full(number)?;
+    narrow(place)
+}
+
 /// The place of each number; a new one goes last.
 pub(crate) fn place_numbers<N: Copy + Eq + Hash + Drop>(
     alloc: Global,
@@ -40,8 +52,7 @@ pub(crate) fn place_numbers<N: Copy + Eq + Hash + Drop>(
 {
     let mut places = Vec::with_capacity(alloc, numbers.len())?;
     for number in numbers {
-        let (place, _) = set.insert_full(*number)?;
-        places.push(narrow(place)?)?;
+        places.push(place_number(set, *number)?)?;
     }
     Ok(places)
 }
@@ -74,4 +85,20 @@ fn index_of_text(
             Ok(place)
         }
     }
+}
+
+/// The place of each text; a new one is copied and goes last.
+pub(crate) fn place_copies(
+    alloc: Global,
+    set: &mut IndexSet<Vec<u8>, RandomState>,
+    texts: &[Vec<u8>],
+) -> Result<Vec<u32>, OutOfMemory>
+    ensures keys { OnOk result (map (λ k. k.items) set.new.keys ≡ keys_with same_bytes (map (λ k. k.items) set.old.keys) (map (λ k. k.items) texts.now)) }
+    ensures places { IfOk result (λ places. places.items ≡ places_of same_bytes (map (λ k. k.items) set.old.keys) (map (λ k. k.items) texts.now)) }
+{
+    let mut places = Vec::with_capacity(alloc, texts.len())?;
+    for text in texts {
+        places.push(place_text(alloc, set, text.as_slice())?)?;
+    }
+    Ok(places)
 }

@@ -6,7 +6,7 @@ use Rattle.key_columns.specs.Words.{key_tuples}
 use Rattle.group_keys.specs.Sets.{IsSetOf, Places}
 use Rattle.group_keys.specs.declared.key_set.KeySet.TheVariants.{Words, Wide, Texts}
 use Rattle.group_keys.proofs.Codes.{fits-one, is_word, one-word}
-use Rattle.group_keys.proofs.Placing.{One-placed, Texts-placed, Wide-placed, Words-placed, number-rows, ok_of, on_both, text-rows}
+use Rattle.group_keys.proofs.Placing.{One-rows, Texts-placed, Wide-placed, Words-placed, number-rows, ok_of, on_both, text-rows}
 use Rattle.group_keys.proofs.key_set.KeySet.place_rows.Goals as goal
 
 pub key_words-requires-clause-plain : goal.key_words-requires-clause-plain
@@ -18,7 +18,7 @@ pub returns-in-One : goal.returns-in-One
 returns-in-One c =
     ok_as c.all_at_first.result _ _
     (λ places is. subst (λ s. Places c.args.types.now s s (key_tuples c.args.columns.now c.args.keys.now c.args.from (c.args.to - c.args.from)) places.items) (sym c.in-One.is)
-    (One-placed c.args.types.now c.args.columns.now c.args.keys.now c.args.from c.args.to c.requires.order c.requires.columns places.items is))
+    (One-rows c.args.types.now c.args.columns.now c.args.keys.now c.args.from c.args.to c.requires.order c.requires.columns places.items is))
     c.all_at_first.ensures
 
 pub returns-in_ok-words-in-Words : goal.returns-in_ok-words-in-Words
