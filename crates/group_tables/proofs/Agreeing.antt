@@ -1,8 +1,8 @@
 -- What a plan that agrees with the columns of a batch promises of the keys and the arguments of rows.
-use Rattle.std.proofs.Common.{◌≡◌, ℕ, zero, suc, ◌+◌, ◌-◌, ◌<◌, ◌≤◌, ◌&&◌, Bool, true, false, List, [], ◌∷◌, ◌++◌, length, map, get_or, refl, ap, ap₂, sym, ◌∙◌, subst, arith}
+use Rattle.std.proofs.Common.{◌≡◌, ℕ, zero, suc, ◌+◌, ◌<◌, ◌≤◌, Bool, true, List, [], ◌∷◌, ◌++◌, length, map, get_or, refl, ap, ap₂, sym, ◌∙◌, subst, arith}
 use Rattle.std.specs.List.{All, list_all}
 use Rattle.std.proofs.lemmas.Bool.{and_parts}
-use Rattle.std.proofs.lemmas.List.{get_or_default, get_or-map, length-map, map_push}
+use Rattle.std.proofs.lemmas.List.{get_or-map, length-map, map_push}
 use Rattle.agg_terms.specs.Chains as terms
 use Rattle.agg_terms.specs.Fitting.{fits_value}
 use Rattle.agg_terms.specs.Lists.{Each}
@@ -10,7 +10,7 @@ use Rattle.agg_terms.specs.Trees.{IsValue}
 use Rattle.agg_terms.specs.Values as family
 use Rattle.agg_terms.proofs.Fitting as fitting
 use Rattle.agg_typing.specs.Kinds.{is_number_or_text}
-use Rattle.agg_typing.specs.Views.{IsCallOver, IsKeyOver, IsViewOver}
+use Rattle.agg_typing.specs.Views.{IsCallOver, IsKeyOver}
 use Rattle.agg_meaning.specs.Feeds.{AreValues}
 use Rattle.agg_meaning.specs.Views.{items_at}
 use Rattle.columns.specs.Rows.{AreTyped, row_at}
@@ -22,7 +22,7 @@ use Rattle.value_types.specs.declared.ty.Ty.TheVariants as rust
 use Rattle.value_types.specs.declared.value.Value.{Value}
 use Rattle.value_types.specs.declared.value.Value.TheVariants.{Nil}
 use Rattle.key_methods.specs.Kinds.{AreKeyTypes}
-use Rattle.key_columns.specs.Words.{AreKeyColumns, column_at, key_tuple, key_tuples, key_values}
+use Rattle.key_columns.specs.Words.{AreKeyColumns, column_at, key_tuple, key_tuples}
 use Rattle.chain_states.specs.Calls.{argument_rows, batch_row}
 use Rattle.group_tables.specs.Calls.{call_of, calls_of}
 use Rattle.group_tables.specs.proving.Rows.{rows_between}
@@ -35,6 +35,10 @@ each-all P [] e j d h = absurd (omega (arith, h))
 each-all P (x ∷ xs) e zero d h = e.0
 each-all P (x ∷ xs) e (suc j) d h = each-all P xs e.1 j d (omega (arith, h))
 
+pub each-weaker : {X : Type 0} (P Q : X → Type 0) → ((x : X) → P x → Q x) → (xs : List X) → Each P xs → Each Q xs
+each-weaker P Q f [] e = tt
+each-weaker P Q f (x ∷ xs) e = (f x e.0, each-weaker P Q f xs e.1)
+
 each-map : {X Y : Type 0} (P : X → Type 0) (Q : Y → Type 0) (f : X → Y) → ((x : X) → P x → Q (f x)) → (xs : List X) → Each P xs → Each Q (map f xs)
 each-map P Q f g [] e = tt
 each-map P Q f g (x ∷ xs) e = (g x e.0, each-map P Q f g xs e.1)
@@ -42,6 +46,10 @@ each-map P Q f g (x ∷ xs) e = (g x e.0, each-map P Q f g xs e.1)
 pub each-push : {X : Type 0} (P : X → Type 0) (xs : List X) (x : X) → Each P xs → P x → Each P (xs ++ x ∷ [])
 each-push P [] x h p = (p, tt)
 each-push P (y ∷ xs) x h p = (h.0, each-push P xs x h.1 p)
+
+pub each-append : {X : Type 0} (P : X → Type 0) (xs ys : List X) → Each P xs → Each P ys → Each P (xs ++ ys)
+each-append P [] ys h k = k
+each-append P (x ∷ xs) ys h k = (h.0, each-append P xs ys h.1 k)
 
 passes-at : {X : Type 0} (p : X → Bool) (xs : List X) (i : ℕ) (d : X) → i < length xs → list_all p xs ≡ true → p (get_or xs i d) ≡ true
 passes-at p [] i d h e = absurd (omega (arith, h))
@@ -113,6 +121,13 @@ keys-in types keys e = each-all (λ k. k < length types) keys (go keys e)
     go [] k = tt
     go (x ∷ xs) k = (subst (λ n. x < n) (length-map types ty_of) k.0.0, go xs k.1)
 
+module _ (types : List Ty) where
+  key-kind : (k : ℕ) → IsKeyOver (map ty_of types) k → is_number_or_text (ty_of (get_or types k rust.Str)) ≡ true
+  key-kind k e = ap is_number_or_text (sym (get_or-map ty_of types k rust.Str terms.Str (subst (λ n. k < n) (length-map types ty_of) e.0))) ∙ e.1
+
+  pub key-types : (keys : List ℕ) → Each (IsKeyOver (map ty_of types)) keys → AreKeyTypes (map (λ k. get_or types k rust.Str) keys)
+  key-types keys e = each-map (IsKeyOver (map ty_of types)) (λ ty. is_number_or_text (ty_of ty) ≡ true) (λ k. get_or types k rust.Str) key-kind keys e
+
 module _ (types : List Ty) (columns : List TypedValues) (types-are : map (λ c. c.ty) columns ≡ types) where
   long : length columns ≡ length types
   long = sym (length-map columns (λ c. c.ty)) ∙ ap length types-are
@@ -120,12 +135,6 @@ module _ (types : List Ty) (columns : List TypedValues) (types-are : map (λ c. 
   pub keys-below : (keys : List ℕ) → Each (IsKeyOver (map ty_of types)) keys → Each (λ k. k < length columns) keys
   keys-below [] e = tt
   keys-below (k ∷ keys) e = (subst (λ n. k < n) (length-map types ty_of ∙ sym long) e.0.0, keys-below keys e.1)
-
-  key-kind : (k : ℕ) → IsKeyOver (map ty_of types) k → is_number_or_text (ty_of (get_or types k rust.Str)) ≡ true
-  key-kind k e = ap is_number_or_text (sym (get_or-map ty_of types k rust.Str terms.Str (subst (λ n. k < n) (length-map types ty_of) e.0))) ∙ e.1
-
-  pub key-types : (keys : List ℕ) → Each (IsKeyOver (map ty_of types)) keys → AreKeyTypes (map (λ k. get_or types k rust.Str) keys)
-  key-types keys e = each-map (IsKeyOver (map ty_of types)) (λ ty. is_number_or_text (ty_of ty) ≡ true) (λ k. get_or types k rust.Str) key-kind keys e
 
   type-at : (k : ℕ) → k < length columns → get_or types k rust.Str ≡ (column_at columns k).ty
   type-at k h = ap (λ ts. get_or ts k rust.Str) (sym types-are) ∙ get_or-map (λ c. c.ty) columns k _ rust.Str h

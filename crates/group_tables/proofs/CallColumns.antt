@@ -1,8 +1,8 @@
 -- The columns of states of all calls, one call after another.
-use Rattle.std.proofs.Common.{◌≡◌, ◌⊎◌, ℕ, zero, suc, ◌+◌, ◌-◌, ◌<◌, ◌≤◌, List, [], ◌∷◌, ◌++◌, length, map, get_or, set, replicate, refl, ap, sym, ◌∙◌, subst, arith, inl, inr}
+use Rattle.std.proofs.Common.{◌≡◌, ◌⊎◌, ℕ, ◌+◌, ◌-◌, ◌<◌, ◌≤◌, List, [], ◌∷◌, ◌++◌, length, map, get_or, set, replicate, refl, ap, sym, ◌∙◌, subst, arith, inl, inr}
 use Rattle.std.proofs.lemmas.Bool.{cases_eq, cases_lt}
-use Rattle.std.proofs.lemmas.List.{get_or-append_right, get_or-map, get_or-replicate, get_or-set_other, get_or-set_same, get_or_append_left, get_or_default, get_or_past, get_or_push, length-append, length-map, length-replicate, length-set, length_push}
-use Rattle.std.specs.Prelude.{OnOk, IfOk, Result, Ok, Err}
+use Rattle.std.proofs.lemmas.List.{get_or-append_right, get_or-map, get_or-replicate, get_or-set_other, get_or-set_same, get_or_append_left, get_or_default, get_or_past, get_or_push, length-append, length-replicate, length-set, length_push}
+use Rattle.std.specs.Prelude.{OnOk, Result, Ok, Err}
 use Rattle.agg_terms.specs.Values.{Empty, Tree, Value}
 use Rattle.agg_meaning.specs.Feeds.{opened}
 use Rattle.agg_meaning.specs.Results.{blank}
@@ -10,10 +10,12 @@ use Rattle.agg_meaning.specs.States.{TakesFeeds}
 use Rattle.agg_meaning.proofs.Blank.{of_none}
 use Rattle.typed_columns.specs.TypedValues.{TypedValues}
 use Rattle.chain_states.specs.Calls.{argument_rows, chain_in, types_in}
-use Rattle.state_columns.specs.Trees.{IsColumnOf, TakeAt, blank_in, trees_in}
+use Rattle.state_columns.specs.Trees.{IsColumnOf, JoinAt, TakeAt, blank_in, trees_in}
 use Rattle.state_columns.specs.declared.column.StateColumn.{StateColumn}
 use Rattle.table_words.specs.KeyLists.{reaching}
-use Rattle.group_tables.specs.proving.Fed.{AreFed, AreFresh, IsFed, IsFresh}
+use Rattle.table_words.specs.Laws.{JoinsAll}
+use Rattle.group_tables.specs.proving.Fed.{AreFresh, IsFed, IsFresh}
+use Rattle.group_tables.specs.proving.Joined.{IsJoined}
 use Rattle.group_tables.specs.Tables.{AreColumns}
 use Rattle.group_tables.specs.declared.grouping.GroupCall.{GroupCall}
 
@@ -31,13 +33,12 @@ trees-at columns i d h = get_or-map trees_in columns i d [] h
 
 -- ---- one call
 -- trees with blank ones behind, as far as the count
-module _ (call : GroupCall) (count : ℕ) (ps : List ℕ) (rs : List (List Value)) (old mid new : List Tree) (room : length old ≤ count)
-    (wide : mid ≡ old ++ replicate (count - length old) (blank_in call.ready)) where
-  mid-long : length mid ≡ count
+module _ (call : GroupCall) (count : ℕ) (old mid : List Tree) (room : length old ≤ count) (wide : mid ≡ old ++ replicate (count - length old) (blank_in call.ready)) where
+  pub mid-long : length mid ≡ count
   mid-long =
       omega (arith, ap length wide, length-append old (replicate (count - length old) (blank_in call.ready)), length-replicate (count - length old) (blank_in call.ready), room)
 
-  mid-at : (g : ℕ) → g < count → get_or mid g Empty ≡ get_or old g (blank (chain_in call.ready))
+  pub mid-at : (g : ℕ) → g < count → get_or mid g Empty ≡ get_or old g (blank (chain_in call.ready))
   mid-at g h = ap (λ l. get_or l g Empty) wide ∙ by (cases_lt g (length old))
     where
       by : (g < length old) ⊎ (length old ≤ g) → get_or (old ++ replicate (count - length old) (blank_in call.ready)) g Empty ≡ get_or old g (blank (chain_in call.ready))
@@ -48,11 +49,19 @@ module _ (call : GroupCall) (count : ℕ) (ps : List ℕ) (rs : List (List Value
           ∙ of_none (chain_in call.ready) (types_in call.ready)
           ∙ sym (get_or_past old g (blank (chain_in call.ready)) l)
 
-  pub fed-call : TakeAt call.ready ps rs mid new → IsFed call count ps rs old new
-  fed-call t = record {
+  pub fed-call : (ps : List ℕ) (rs : List (List Value)) (new : List Tree) → TakeAt call.ready ps rs mid new → IsFed call count ps rs old new
+  fed-call ps rs new t = record {
     long = t.long ∙ mid-long;
     at = λ g h.
         subst (λ x. TakesFeeds (chain_in call.ready) (types_in call.ready) (map (opened (chain_in call.ready)) (reaching g ps rs)) x (get_or new g Empty)) (mid-at g h)
+        (t.at g (subst (λ m. g < m) (sym mid-long) h));
+  }
+
+  pub joined-call : (ps : List ℕ) (us new : List Tree) → JoinAt call.ready ps us mid new → IsJoined call count ps us old new
+  joined-call ps us new t = record {
+    long = t.long ∙ mid-long;
+    at = λ g h.
+        subst (λ x. JoinsAll (chain_in call.ready) (types_in call.ready) (reaching g ps us) x (get_or new g Empty)) (mid-at g h)
         (t.at g (subst (λ m. g < m) (sym mid-long) h));
   }
 
@@ -110,31 +119,29 @@ module _ (calls : List GroupCall) (count : ℕ) (columns : List StateColumn) (m 
         subst (IsFresh (get_or calls i call) count) (sym (trees-at columns i d there)) (m.fresh i call d h);
   }
 
--- ---- columns fed so far
-pub record FedSoFar (calls : List GroupCall) (count : ℕ) (ps : List ℕ) (columns : List TypedValues) (from n : ℕ) (start states : List StateColumn) (i : ℕ) : Type 0 where
+-- ---- columns changed so far, each as the number of its call asks
+pub record ChangedSoFar (calls : List GroupCall) (P : ℕ → GroupCall → List Tree → List Tree → Type 0) (start states : List StateColumn) (i : ℕ) : Type 0 where
   pub many : length states ≡ length start
   pub same : (j : ℕ) (d : StateColumn) → i ≤ j → get_or states j d ≡ get_or start j d
   pub shape : (j : ℕ) (call : GroupCall) (d : StateColumn) → j < i → IsColumnOf (get_or calls j call).ready (get_or states j d)
-  pub fed : (j : ℕ) (call : GroupCall) (d : StateColumn) → j < i →
-      IsFed (get_or calls j call) count ps (argument_rows columns (get_or calls j call).columns from n) (trees_in (get_or start j d)) (trees_in (get_or states j d))
+  pub done : (j : ℕ) (call : GroupCall) (d : StateColumn) → j < i → P j (get_or calls j call) (trees_in (get_or start j d)) (trees_in (get_or states j d))
 
-module _ (calls : List GroupCall) (count : ℕ) (ps : List ℕ) (columns : List TypedValues) (from n : ℕ) (start : List StateColumn) where
-  pub fed_none : FedSoFar calls count ps columns from n start start 0
-  fed_none = record {
+module _ (calls : List GroupCall) (P : ℕ → GroupCall → List Tree → List Tree → Type 0) (start : List StateColumn) where
+  pub changed_none : ChangedSoFar calls P start start 0
+  changed_none = record {
     many = refl;
     same = λ j d h. refl;
     shape = λ j call d h. absurd (omega (arith, h));
-    fed = λ j call d h. absurd (omega (arith, h));
+    done = λ j call d h. absurd (omega (arith, h));
   }
 
-  pub fed_more : (states : List StateColumn) (i : ℕ) (c : GroupCall) (s x : StateColumn) → FedSoFar calls count ps columns from n start states i → i < length calls → length start ≡ length calls →
-      c ≡ get_or calls i c → s ≡ get_or states i s → IsColumnOf c.ready x → IsFed c count ps (argument_rows columns c.columns from n) (trees_in s) (trees_in x) →
-      FedSoFar calls count ps columns from n start (set states i x) (i + 1)
-  fed_more states i c s x f lt long is s-is column fed = record {
+  pub changed_more : (states : List StateColumn) (i : ℕ) (c : GroupCall) (s x : StateColumn) → ChangedSoFar calls P start states i → i < length calls → length start ≡ length calls →
+      c ≡ get_or calls i c → s ≡ get_or states i s → IsColumnOf c.ready x → P i c (trees_in s) (trees_in x) → ChangedSoFar calls P start (set states i x) (i + 1)
+  changed_more states i c s x f lt long is s-is column done = record {
     many = length-set states i x ∙ f.many;
     same = λ j d h. get_or-set_other states i j x d (λ e. absurd (omega (arith, e, h))) ∙ f.same j d (omega (arith, h));
     shape = λ j call d h. at-shape j call d h (cases_eq i j);
-    fed = λ j call d h. at-fed j call d h (cases_eq i j);
+    done = λ j call d h. at-done j call d h (cases_eq i j);
   }
     where
       within : i < length states
@@ -161,27 +168,32 @@ module _ (calls : List GroupCall) (count : ℕ) (ps : List ℕ) (columns : List 
       at-shape j call d h (inr other) =
           subst (λ y. IsColumnOf (get_or calls j call).ready y) (sym (get_or-set_other states i j x d (λ q. other (sym q)))) (f.shape j call d (before j h other))
 
-      at-fed : (j : ℕ) (call : GroupCall) (d : StateColumn) → j < i + 1 → (i ≡ j) ⊎ (i ≡ j → ⊥) →
-          IsFed (get_or calls j call) count ps (argument_rows columns (get_or calls j call).columns from n) (trees_in (get_or start j d)) (trees_in (get_or (set states i x) j d))
-      at-fed j call d h (inl e) =
-          subst (λ y. IsFed (get_or calls j call) count ps (argument_rows columns (get_or calls j call).columns from n) (trees_in (get_or start j d)) (trees_in y)) (set-is j d e)
-          (subst (λ y. IsFed (get_or calls j call) count ps (argument_rows columns (get_or calls j call).columns from n) (trees_in y) (trees_in x)) (start-is j d e)
-          (subst (λ k. IsFed k count ps (argument_rows columns k.columns from n) (trees_in s) (trees_in x)) (call-is j call e) fed))
-      at-fed j call d h (inr other) =
-          subst (λ y. IsFed (get_or calls j call) count ps (argument_rows columns (get_or calls j call).columns from n) (trees_in (get_or start j d)) (trees_in y))
-          (sym (get_or-set_other states i j x d (λ q. other (sym q)))) (f.fed j call d (before j h other))
+      at-done : (j : ℕ) (call : GroupCall) (d : StateColumn) → j < i + 1 → (i ≡ j) ⊎ (i ≡ j → ⊥) → P j (get_or calls j call) (trees_in (get_or start j d)) (trees_in (get_or (set states i x) j d))
+      at-done j call d h (inl e) =
+          subst (λ m. P m (get_or calls j call) (trees_in (get_or start j d)) (trees_in (get_or (set states i x) j d))) e
+          (subst (λ y. P i (get_or calls j call) (trees_in (get_or start j d)) (trees_in y)) (set-is j d e)
+          (subst (λ y. P i (get_or calls j call) (trees_in y) (trees_in x)) (start-is j d e)
+          (subst (λ k. P i k (trees_in s) (trees_in x)) (call-is j call e) done)))
+      at-done j call d h (inr other) =
+          subst (λ y. P j (get_or calls j call) (trees_in (get_or start j d)) (trees_in y))
+          (sym (get_or-set_other states i j x d (λ q. other (sym q)))) (f.done j call d (before j h other))
 
-  module _ (states : List StateColumn) (long : length start ≡ length calls) (f : FedSoFar calls count ps columns from n start states (length calls)) where
-    pub fed_shape : AreColumns calls states
-    fed_shape = record { many = f.many ∙ long; each = f.shape }
+  module _ (states : List StateColumn) (long : length start ≡ length calls) (f : ChangedSoFar calls P start states (length calls)) where
+    pub changed_shape : AreColumns calls states
+    changed_shape = record { many = f.many ∙ long; each = f.shape }
 
-    pub fed_all : AreFed calls count ps columns from n (map trees_in start) (map trees_in states)
-    fed_all = record {
-      each = λ i call h.
-          let here : i < length start = subst (λ m. i < m) (sym long) h in
-          let there : i < length states = subst (λ m. i < m) (sym f.many) here in
-          let d = some_of start i here in
-          subst (λ y. IsFed (get_or calls i call) count ps (argument_rows columns (get_or calls i call).columns from n) y (get_or (map trees_in states) i [])) (sym (trees-at start i d here))
-          (subst (λ y. IsFed (get_or calls i call) count ps (argument_rows columns (get_or calls i call).columns from n) (trees_in (get_or start i d)) y) (sym (trees-at states i d there))
-          (f.fed i call d h));
-    }
+    pub changed_all : (i : ℕ) (call : GroupCall) → i < length calls → P i (get_or calls i call) (get_or (map trees_in start) i []) (get_or (map trees_in states) i [])
+    changed_all i call h =
+        let here : i < length start = subst (λ m. i < m) (sym long) h in
+        let there : i < length states = subst (λ m. i < m) (sym f.many) here in
+        let d = some_of start i here in
+        subst (λ y. P i (get_or calls i call) y (get_or (map trees_in states) i [])) (sym (trees-at start i d here))
+        (subst (λ y. P i (get_or calls i call) (trees_in (get_or start i d)) y) (sym (trees-at states i d there))
+        (f.done i call d h))
+
+-- ---- what becomes of each call's trees
+abbrev pub Fed : ℕ → List ℕ → List TypedValues → ℕ → ℕ → ℕ → GroupCall → List Tree → List Tree → Type 0
+Fed count ps columns from n i c old new = IsFed c count ps (argument_rows columns c.columns from n) old new
+
+abbrev pub Joined : ℕ → List ℕ → List (List Tree) → ℕ → GroupCall → List Tree → List Tree → Type 0
+Joined count ps later i c old new = IsJoined c count ps (get_or later i []) old new

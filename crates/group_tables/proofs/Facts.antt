@@ -1,7 +1,7 @@
 -- What a plan made ready promises of the columns of a batch of its types.
 use Rattle.std.proofs.Common.{◌≡◌, ℕ, zero, suc, ◌+◌, ◌-◌, ◌<◌, ◌≤◌, List, [], ◌∷◌, ◌++◌, length, map, take, drop, get_or, refl, ap, ap₂, sym, ◌∙◌, subst, arith}
 use Rattle.std.specs.List.{All, slice_range}
-use Rattle.std.proofs.lemmas.List.{get_or-drop, length-drop, length-map, map_push}
+use Rattle.std.proofs.lemmas.List.{get_or-drop, length-drop, length-map}
 use lib.Seq.{take-suc}
 use Rattle.agg_terms.specs.Lists.{Each}
 use Rattle.agg_meaning.specs.Feeds.{AreValues}
@@ -12,7 +12,7 @@ use Rattle.agg_typing.specs.Views.{IsViewOver}
 use Rattle.value_types.specs.declared.ty.Ty.{Ty}
 use Rattle.agg_typing.specs.Promises.{LegalIsLawful}
 use Rattle.row_laws.proofs.Calls.{contributed}
-use Rattle.columns.specs.Rows.{AreLong, AreTyped, row_at, rows_upto}
+use Rattle.columns.specs.Rows.{AreLong, AreTyped, rows_upto}
 use Rattle.columns.proofs.Rows.{count_rows, row_is}
 use Rattle.typed_columns.specs.TypedValues.{TypedValues}
 use Rattle.value_types.specs.Folds.{ty_of}
@@ -26,15 +26,15 @@ use Rattle.group_tables.specs.declared.grouping.Grouping.{Grouping}
 use Rattle.group_tables.proofs.Agreeing.{all-below, all-few, each-all, key-columns, key-types, keys-below, rows-fit, rows_in}
 use Rattle.group_tables.proofs.TableLaws.{all-narrow, view-legal}
 
+pub kinds : (g : Grouping) → IsReady g → AreKeyTypes g.key_types
+kinds g ready = subst AreKeyTypes (sym ready.key_types_are) (key-types g.types g.keys ready.fits.keys)
+
 module _ (g : Grouping) (ready : IsReady g) (columns : List TypedValues) (types-are : map (λ c. c.ty) columns ≡ g.types) where
   pub below : Each (λ k. k < length columns) g.keys
   below = keys-below g.types columns types-are g.keys ready.fits.keys
 
   pub all-keys : All (λ k. k < length columns) g.keys
   all-keys = each-all (λ k. k < length columns) g.keys below
-
-  pub kinds : AreKeyTypes g.key_types
-  kinds = subst AreKeyTypes (sym ready.key_types_are) (key-types g.types columns types-are g.keys ready.fits.keys)
 
   pub few : All (λ c. length c.columns ≤ 64) g.calls
   few = each-all (λ c. length c.columns ≤ 64) g.calls (all-few (map ty_of g.types) g.calls ready.fits.calls)

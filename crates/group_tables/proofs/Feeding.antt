@@ -1,7 +1,6 @@
 -- What a table asks for and comes to when rows are fed, with the lists at hand equal to those of the plan.
-use Rattle.std.proofs.Common.{◌≡◌, ℕ, ◌-◌, ◌<◌, ◌≤◌, List, length, map, refl, sym, ap, subst, ◌∙◌, arith, [], ◌∷◌}
+use Rattle.std.proofs.Common.{◌≡◌, ℕ, ◌-◌, ◌<◌, ◌≤◌, List, length, map, sym, ap, subst, ◌∙◌}
 use Rattle.std.specs.List.{All}
-use Rattle.agg_terms.specs.Lists.{Each}
 use Rattle.agg_typing.specs.Promises.{LegalIsLawful}
 use Rattle.columns.specs.Rows.{AreTyped}
 use Rattle.typed_columns.specs.TypedValues.{TypedValues}
@@ -12,7 +11,6 @@ use Rattle.key_columns.specs.Words.{AreKeyColumns, key_tuples}
 use Rattle.group_keys.specs.Sets.{IsSetOf, Places, count_in}
 use Rattle.group_keys.specs.declared.key_set.KeySet.{KeySet}
 use Rattle.state_columns.specs.Trees.{trees_in}
-use Rattle.state_columns.specs.declared.column.StateColumn.{StateColumn}
 use Rattle.group_tables.specs.proving.Fed.{AreFed}
 use Rattle.group_tables.specs.Groupings.{IsReady}
 use Rattle.group_tables.specs.proving.Rows.{rows_between}
@@ -20,13 +18,8 @@ use Rattle.group_tables.specs.Tables.{AreColumns, IsTableOf, TakesRowsOf}
 use Rattle.group_tables.specs.declared.grouping.GroupCall.{GroupCall}
 use Rattle.group_tables.specs.declared.grouping.Grouping.{Grouping}
 use Rattle.group_tables.specs.declared.table.GroupTable.{GroupTable}
-use Rattle.group_tables.proofs.Agreeing.{each-all}
 use Rattle.group_tables.proofs.Facts as facts
-use Rattle.group_tables.proofs.TableLaws.{columns-long, count-grows, places-many, places-within, takes-rows}
-
-each-weaker : {X : Type 0} (P Q : X → Type 0) → ((x : X) → P x → Q x) → (xs : List X) → Each P xs → Each Q xs
-each-weaker P Q f [] e = tt
-each-weaker P Q f (x ∷ xs) e = (f x e.0, each-weaker P Q f xs e.1)
+use Rattle.group_tables.proofs.TableLaws.{length-tuples, places-many, places-within, room-for, takes-rows}
 
 module _ (g : Grouping) (ready : IsReady g) (old : GroupTable) (columns : List TypedValues) (from to : ℕ) (made : IsTableOf g old) (types-are : map (λ c. c.ty) columns ≡ g.types)
     (typed : AreTyped columns) (order : from ≤ to) (within : All (λ c. to ≤ length c.values) columns)
@@ -35,7 +28,7 @@ module _ (g : Grouping) (ready : IsReady g) (old : GroupTable) (columns : List T
   ask-set = subst (λ ts. IsSetOf ts old.keys) (sym ts-is) (made.1.keys, made.1.held)
 
   pub ask-types : AreKeyTypes types
-  ask-types = subst AreKeyTypes (sym ts-is) (facts.kinds g ready columns types-are)
+  ask-types = subst AreKeyTypes (sym ts-is) (facts.kinds g ready)
 
   pub ask-keys : All (λ k. k < length columns) keys
   ask-keys = subst (All (λ k. k < length columns)) (sym ks-is) (facts.all-keys g ready columns types-are)
@@ -63,19 +56,15 @@ module _ (g : Grouping) (ready : IsReady g) (old : GroupTable) (columns : List T
         (subst (λ ts. Places ts old.keys new-keys (key_tuples columns keys from (to - from)) ps) ts-is placed))
 
     pub ask-places : All (λ p. p < count) qs
-    ask-places =
-        subst (λ n. All (λ p. p < n) qs) (sym count-is)
-        (each-all (λ p. p < count_in new-keys) qs (places-within g.key_types old.keys new-keys columns g.keys from (to - from) qs (made.1.keys, made.1.held) placed-there))
+    ask-places = places-within g.key_types old.keys new-keys (key_tuples columns g.keys from (to - from)) qs (made.1.keys, made.1.held) placed-there count count-is
 
     pub ask-many : length qs ≡ to - from
-    ask-many = places-many g.key_types old.keys new-keys columns g.keys from (to - from) qs (made.1.keys, made.1.held) placed-there
+    ask-many =
+        places-many g.key_types old.keys new-keys (key_tuples columns g.keys from (to - from)) qs (made.1.keys, made.1.held) placed-there
+        ∙ length-tuples columns g.keys from (to - from)
 
     pub ask-room : All (λ s. length (trees_in s) ≤ count) old.columns.items
-    ask-room =
-        let grows = count-grows g.key_types old.keys new-keys columns g.keys from (to - from) qs (made.1.keys, made.1.held) placed-there in
-        each-all (λ s. length (trees_in s) ≤ count) old.columns.items
-        (each-weaker (λ s. length (trees_in s) ≡ count_in old.keys) (λ s. length (trees_in s) ≤ count) (λ s e. omega (arith, e, grows, count-is)) old.columns.items
-        (columns-long g old made old.columns.items refl))
+    ask-room = room-for g old made new-keys (key_tuples columns g.keys from (to - from)) qs placed-there count count-is
 
     pub fed-table : (new : GroupTable) → new.keys ≡ new-keys → AreFed calls count qs columns from (to - from) (map trees_in old.columns.items) (map trees_in new.columns.items) →
         AreColumns calls new.columns.items → LegalIsLawful → TypesAreNarrow → TakesRowsOf g (rows_between columns from (to - from)) old new

@@ -1,17 +1,13 @@
 -- A legal call has few arguments.
-use Rattle.std.proofs.Common.{◌≡◌, ℕ, suc, ◌+◌, ◌<◌, ◌≤◌, Bool, true, false, cond, not, nat_le, nat_lt, List, [], ◌∷◌, length, refl, ap, sym, ◌∙◌, subst, arith, max, true≢false}
+use Rattle.std.proofs.Common.{◌≡◌, ◌+◌, ◌≤◌, Bool, true, false, cond, nat_lt, List, length, refl, arith}
 use Rattle.std.specs.Prelude.{Option, None, Some, is_none}
 use Rattle.std.proofs.lemmas.Bool.{and_parts, leb-true, ltb-false}
 use Rattle.agg_terms.specs.Chains as C
 use Rattle.agg_terms.specs.Chains.{Chain, Leaf, Ty}
-use Rattle.agg_terms.specs.Lists.{numbered}
 use Rattle.agg_typing.specs.Counts.{arg_count, greatest, inside_maps, leaf_greatest, least, takes_count}
 use Rattle.agg_typing.specs.Faults.{ArgCount, Fault, or_else}
-use Rattle.agg_typing.specs.Kinds.{arg_types}
-use Rattle.agg_typing.specs.Legal.{in_range, is_formed, is_legal, is_typed, suffixes_of}
-use Rattle.agg_typing.specs.Parameters.{pattern_conditions}
-use Rattle.agg_typing.specs.States.{wrong_state}
-use Rattle.agg_typing.specs.Suffixes.{arguments_reaching, has_array_outside_if, has_few_suffixes, most_suffixes}
+use Rattle.agg_typing.specs.Legal.{is_formed, is_legal, is_typed, suffixes_of}
+use Rattle.agg_typing.specs.Suffixes.{has_few_suffixes, most_suffixes}
 
 leaf-most : (f : Leaf) → leaf_greatest f ≤ 33
 leaf-most C.ArgMin = omega arith

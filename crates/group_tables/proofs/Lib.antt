@@ -4,3 +4,7 @@ pub mod CallColumns
 pub mod TableLaws
 pub mod Facts
 pub mod Feeding
+pub mod InOrder
+pub mod LineLaws
+pub mod MergeLaws
+pub mod Merges

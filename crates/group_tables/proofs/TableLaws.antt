@@ -1,19 +1,18 @@
 -- A table of no rows, and a table that was fed rows.
-use Rattle.std.proofs.Common.{◌≡◌, ℕ, zero, suc, ◌+◌, ◌-◌, ◌<◌, ◌≤◌, cond, List, [], ◌∷◌, ◌++◌, length, map, get_or, replicate, refl, ap, ap₂, sym, ◌∙◌, subst, arith}
-use Rattle.std.specs.Cmp.{IsEquivalence}
-use Rattle.std.specs.Prelude.{Bool}
+use Rattle.std.proofs.Common.{◌≡◌, ℕ, zero, suc, ◌+◌, ◌<◌, ◌≤◌, cond, List, [], ◌∷◌, ◌++◌, length, map, get_or, refl, ap, ap₂, sym, ◌∙◌, subst, arith}
+use Rattle.std.specs.List.{All}
 use Rattle.std.proofs.lemmas.List.{get_or-map, get_or-replicate, length-map, length-replicate, length_push}
 use Rattle.indexmap.specs.IndexSet.{insert_key}
 use Rattle.agg_terms.specs.Chains as terms
 use Rattle.agg_terms.specs.Lists.{Each, is_empty}
-use Rattle.agg_terms.specs.Values.{Empty, Tree, Value}
+use Rattle.agg_terms.specs.Values.{Empty, Value}
 use Rattle.agg_terms.specs.Widths.{IsNarrow}
 use Rattle.agg_meaning.specs.Feeds.{opened}
-use Rattle.agg_meaning.specs.Laws.{IsLegal}
+use Rattle.agg_meaning.specs.Laws.{AreFeeds, IsLegal}
 use Rattle.agg_meaning.specs.Results.{blank}
 use Rattle.agg_meaning.specs.States.{TakesFeeds}
 use Rattle.agg_meaning.specs.Suffixes.{normal}
-use Rattle.agg_meaning.specs.Views.{AreContributions, Call, Contribution, IsLegalView, View, call_at, first_groups, items_at, of_row}
+use Rattle.agg_meaning.specs.Views.{AreContributions, Call, Contribution, IsLegalView, View, call_at, items_at, of_row}
 use Rattle.agg_typing.specs.Promises.{LegalIsLawful}
 use Rattle.agg_typing.specs.Views.{IsCallOver}
 use Rattle.value_types.specs.Folds.{ty_of}
@@ -21,7 +20,7 @@ use Rattle.value_types.specs.Images.{TypesAreNarrow}
 use Rattle.value_types.specs.declared.ty.Ty.{Ty}
 use Rattle.typed_columns.specs.TypedValues.{TypedValues}
 use Rattle.key_columns.specs.Words.{key_tuple, key_tuples}
-use Rattle.chain_states.specs.Calls.{argument_rows, chain_in, types_in}
+use Rattle.chain_states.specs.Calls.{chain_in, types_in}
 use Rattle.state_columns.specs.Trees.{blank_in, trees_in}
 use Rattle.state_columns.specs.declared.column.StateColumn.{StateColumn}
 use Rattle.group_keys.specs.Sets.{Holds, IsSetOf, Places, count_in, first_keys}
@@ -29,19 +28,19 @@ use Rattle.group_keys.specs.declared.key_set.KeySet.{KeySet}
 use Rattle.group_keys.specs.declared.key_set.KeySet.TheVariants.{One, Words, Wide, Texts}
 use Rattle.group_keys.proofs.KeyLists.{length-places_of}
 use Rattle.table_words.specs.KeyLists.{keys_with, places_of, reaching}
-use Rattle.table_words.specs.Laws.{TakesRows, arguments_of, row_keys}
-use Rattle.table_words.specs.Tables.{IsTable, keys_in, same_tuple, tree_at}
+use Rattle.table_words.specs.Laws.{TakesRows, row_keys}
+use Rattle.table_words.specs.Tables.{IsTable, same_tuple}
 use Rattle.table_words.proofs.Fed.{rows_are_fed, tuples}
 use Rattle.table_words.proofs.KeysWith.{length-keys_with, place_within}
 use Rattle.group_tables.specs.Calls.{call_of, calls_of}
-use Rattle.group_tables.specs.proving.Fed.{AreFed, AreFresh, IsFed}
+use Rattle.group_tables.specs.proving.Fed.{AreFed, AreFresh}
 use Rattle.group_tables.specs.Groupings.{view_of}
 use Rattle.group_tables.specs.Tables.{AreColumns, AreTables, IsTableOf, TakesRowsOf, trees_of}
 use Rattle.group_tables.specs.proving.Rows.{rows_between}
 use Rattle.group_tables.specs.declared.grouping.GroupCall.{GroupCall}
 use Rattle.group_tables.specs.declared.grouping.Grouping.{Grouping}
 use Rattle.group_tables.specs.declared.table.GroupTable.{GroupTable}
-use Rattle.group_tables.proofs.Agreeing.{arguments-are, keys-are, rows_in}
+use Rattle.group_tables.proofs.Agreeing.{arguments-are, each-all, each-append, each-weaker, keys-are, rows_in}
 use Rattle.group_tables.proofs.CallColumns.{some_of}
 
 -- ---- the calls of a view
@@ -56,7 +55,7 @@ pub all-narrow : TypesAreNarrow → (types : List Ty) → Each IsNarrow (map ty_
 all-narrow law [] = tt
 all-narrow law (t ∷ ts) = (law t, all-narrow law ts)
 
-call-there : (calls : List GroupCall) (i : ℕ) (c : GroupCall) → i < length calls → call_at (calls_of calls) i ≡ call_of (get_or calls i c)
+pub call-there : (calls : List GroupCall) (i : ℕ) (c : GroupCall) → i < length calls → call_at (calls_of calls) i ≡ call_of (get_or calls i c)
 call-there calls i c h = get_or-map call_of calls i c _ h
 
 -- ---- keys and places
@@ -73,24 +72,25 @@ places-below ks (k ∷ more) = (
   places-below (insert_key same_tuple ks k) more,
 )
 
-length-tuples : (columns : List TypedValues) (keys : List ℕ) (from n : ℕ) → length (key_tuples columns keys from n) ≡ n
+pub length-tuples : (columns : List TypedValues) (keys : List ℕ) (from n : ℕ) → length (key_tuples columns keys from n) ≡ n
 length-tuples columns keys from zero = refl
 length-tuples columns keys from (suc n) = omega (arith, length_push (key_tuples columns keys from n) (key_tuple columns keys (from + n)), length-tuples columns keys from n)
 
-module _ (types : List Ty) (old new : KeySet) (columns : List TypedValues) (keys : List ℕ) (from n : ℕ) (ps : List ℕ) (set : IsSetOf types old)
-    (placed : Places types old new (key_tuples columns keys from n) ps) where
-  pub places-within : Each (λ p. p < count_in new) ps
-  places-within =
+module _ (types : List Ty) (old new : KeySet) (rows : List (List Value)) (ps : List ℕ) (set : IsSetOf types old) (placed : Places types old new rows ps) where
+  within : Each (λ p. p < count_in new) ps
+  within =
       subst (Each (λ p. p < count_in new)) (sym (placed.at set.0 set.1))
-      (subst (λ m. Each (λ p. p < m) (places_of same_tuple set.0 (key_tuples columns keys from n))) (sym (count-held types new _ (placed.holds set.0 set.1)))
-      (places-below set.0 (key_tuples columns keys from n)))
+      (subst (λ m. Each (λ p. p < m) (places_of same_tuple set.0 rows)) (sym (count-held types new _ (placed.holds set.0 set.1))) (places-below set.0 rows))
 
-  pub places-many : length ps ≡ n
-  places-many = ap length (placed.at set.0 set.1) ∙ length-places_of same_tuple set.0 (key_tuples columns keys from n) ∙ length-tuples columns keys from n
+  pub places-within : (count : ℕ) → count ≡ count_in new → All (λ p. p < count) ps
+  places-within count count-is = subst (λ n. All (λ p. p < n) ps) (sym count-is) (each-all (λ p. p < count_in new) ps within)
+
+  pub places-many : length ps ≡ length rows
+  places-many = ap length (placed.at set.0 set.1) ∙ length-places_of same_tuple set.0 rows
 
   pub count-grows : count_in old ≤ count_in new
   count-grows =
-      let a = length-keys_with same_tuple set.0 (key_tuples columns keys from n) in
+      let a = length-keys_with same_tuple set.0 rows in
       omega (arith, a, count-held types old set.0 set.1, count-held types new _ (placed.holds set.0 set.1))
 
 -- ---- the columns of a table have a state for each group
@@ -106,6 +106,15 @@ columns-long g t made columns is =
     all [] f = tt
     all (c ∷ cs) f = (f 0 (omega arith), all cs (λ i h. f (suc i) (omega (arith, h))))
 
+-- and room for those that are new
+pub room-for : (g : Grouping) (t : GroupTable) → IsTableOf g t → (new : KeySet) (rows : List (List Value)) (ps : List ℕ) → Places g.key_types t.keys new rows ps → (count : ℕ) → count ≡ count_in new →
+    All (λ s. length (trees_in s) ≤ count) t.columns.items
+room-for g t made new rows ps placed count count-is =
+    let grows = count-grows g.key_types t.keys new rows ps (made.1.keys, made.1.held) placed in
+    each-all (λ s. length (trees_in s) ≤ count) t.columns.items
+    (each-weaker (λ s. length (trees_in s) ≡ count_in t.keys) (λ s. length (trees_in s) ≤ count) (λ s e. omega (arith, e, grows, count-is)) t.columns.items
+    (columns-long g t made t.columns.items refl))
+
 -- ---- no rows
 same-empty : (f : ℕ → Ty) (keys : List ℕ) (types : List Ty) → types ≡ map f keys → is_empty types ≡ is_empty keys
 same-empty f [] types e = ap is_empty e
@@ -114,6 +123,7 @@ same-empty f (k ∷ keys) types e = ap is_empty e
 module _ (g : Grouping) (t : GroupTable) (f : ℕ → Ty) (types-are : g.key_types ≡ map f g.keys) where
   pub fresh-tables : Holds g.key_types t.keys (first_keys g.key_types) → AreColumns g.calls t.columns.items → AreFresh g.calls (count_in t.keys) (map trees_in t.columns.items) → AreTables g t []
   fresh-tables held shape fresh = record {
+    feeds = tt;
     keys = first_keys g.key_types;
     held = held;
     shape = shape;
@@ -165,6 +175,7 @@ module _ (g : Grouping) (old new : GroupTable) (columns : List TypedValues) (fro
 
     fed-tables : AreTables g new (C ++ map (of_row (view_of g)) (rows_in columns from n))
     fed-tables = record {
+      feeds = each-append (λ (c : Contribution (view_of g)). (i : ℕ) → i < length (view_of g).calls → AreFeeds (call_at (view_of g).calls i).chain (call_at (view_of g).calls i).types (c.1 i)) C _ a.feeds brought;
       keys = keys_with same_tuple a.keys (key_tuples columns g.keys from n);
       held = placed.holds a.keys a.held;
       shape = shape;

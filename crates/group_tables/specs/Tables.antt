@@ -2,7 +2,7 @@
 -- of contributions that the table was fed before.
 use Rattle.std.specs.Prelude.{◌≡◌, ◌<◌, ℕ, List, [], ◌++◌, get_or, length, map}
 use Rattle.agg_terms.specs.Values.{Tree, Value}
-use Rattle.agg_meaning.specs.Views.{Contribution, groups, of_row}
+use Rattle.agg_meaning.specs.Views.{AreContributions, Contribution, of_row}
 use Rattle.value_types.specs.Folds.{value_of}
 use Rattle.value_types.specs.declared.value.Value as rust
 use Rattle.state_columns.specs.Trees.{IsColumnOf, trees_in}
@@ -23,9 +23,10 @@ pub record AreColumns (calls : List GroupCall) (columns : List StateColumn) : Ty
 abbrev pub trees_of : List StateColumn → ℕ → List Tree
 trees_of columns i = get_or (map trees_in columns) i []
 
--- A table is the tables of these contributions: it has the different keys in the order of their first appearance, and for each
--- call the state of each key.
+-- A table is the tables of these contributions, which are feeds of the calls: it has the different keys in the order of their first
+-- appearance, and for each call the state of each key.
 pub record AreTables (g : Grouping) (t : GroupTable) (C : List (Contribution (view_of g))) : Type 0 where
+  pub feeds : AreContributions (view_of g) C
   pub keys : List (List Value)
   pub held : Holds g.key_types t.keys keys
   pub table : IsTable (view_of g) C keys (trees_of t.columns.items)
@@ -38,11 +39,3 @@ IsTableOf g t = (C : List (Contribution (view_of g))) × AreTables g t C
 -- a table with the contributions of some rows behind those it had
 pub record TakesRowsOf (g : Grouping) (rows : List (List rust.Value)) (old new : GroupTable) : Type 0 where
   pub tables : (C : List (Contribution (view_of g))) → AreTables g old C → AreTables g new (C ++ map (of_row (view_of g)) (map (map value_of) rows))
-
--- a table with the contributions of a later one behind those it had
-pub record TakesTable (g : Grouping) (later old new : GroupTable) : Type 0 where
-  pub tables : (C D : List (Contribution (view_of g))) → AreTables g old C → AreTables g later D → AreTables g new (C ++ D)
-
--- the places of the groups in the order of the answer: ascending keys, NULL first
-pub record AreInOrder (g : Grouping) (t : GroupTable) (places : List ℕ) : Type 0 where
-  pub groups_are : (C : List (Contribution (view_of g))) (a : AreTables g t C) → map (λ p. get_or a.keys p []) places ≡ groups (view_of g) C

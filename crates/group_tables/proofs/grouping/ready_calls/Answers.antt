@@ -1,4 +1,4 @@
-use Rattle.std.proofs.Common.{◌≡◌, ◌++◌, ◌∷◌, [], ◌∙◌, ap, ap₂, map, sym}
+use Rattle.std.proofs.Common.{◌++◌, ◌∷◌, [], ◌∙◌, ap, ap₂, map, sym}
 use Rattle.std.proofs.lemmas.List.{map_more, map_push}
 use Rattle.agg_defs.specs.Plans.{call_in}
 use Rattle.group_tables.specs.Calls.{call_of}

@@ -1,4 +1,4 @@
-use Rattle.std.proofs.Common.{◌≡◌, ◌++◌, ◌∷◌, [], ◌∙◌, ap₂, get_or, sym}
+use Rattle.std.proofs.Common.{◌++◌, ◌∷◌, [], ◌∙◌, ap₂, get_or, sym}
 use Rattle.std.proofs.lemmas.List.{map_more}
 use Rattle.value_types.specs.declared.ty.Ty.TheVariants as rust
 use Rattle.group_tables.proofs.grouping.types_at.Goals as goal

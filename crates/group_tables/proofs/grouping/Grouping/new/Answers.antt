@@ -1,6 +1,5 @@
-use Rattle.std.proofs.Common.{◌≡◌, ◌<◌, ◌∙◌, ap, ap₂, length, map, subst, sym}
+use Rattle.std.proofs.Common.{◌<◌, ◌∙◌, ap, length, map, subst, sym}
 use Rattle.std.specs.List.{All}
-use Rattle.agg_meaning.specs.Views.{View}
 use Rattle.agg_defs.specs.Plans.{call_in}
 use Rattle.group_tables.proofs.Agreeing.{keys-in}
 use Rattle.group_tables.proofs.Facts.{made-ready, same-view}

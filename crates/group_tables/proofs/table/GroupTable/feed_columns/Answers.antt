@@ -1,4 +1,4 @@
-use Rattle.std.proofs.Common.{◌≡◌, refl}
+use Rattle.std.proofs.Common.{refl}
 use Rattle.group_keys.proofs.Placing.{on_both}
 use Rattle.group_tables.proofs.CallColumns.{ok_then}
 use Rattle.group_tables.proofs.Feeding.{ask-arguments, ask-columns, ask-few, ask-keys, ask-many, ask-places, ask-room, ask-set, ask-shape, ask-types, fed-table}

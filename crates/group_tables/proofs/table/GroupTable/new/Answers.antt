@@ -1,4 +1,4 @@
-use Rattle.std.proofs.Common.{◌≡◌, get_or, map, subst}
+use Rattle.std.proofs.Common.{get_or, map, subst}
 use Rattle.group_keys.specs.Sets.{Holds, first_keys}
 use Rattle.state_columns.specs.Trees.{trees_in}
 use Rattle.value_types.specs.declared.ty.Ty.TheVariants as rust
