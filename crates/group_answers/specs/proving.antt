@@ -1,0 +1,2 @@
+-- What only serves proofs: no public contract stands on it.
+pub mod Lines
