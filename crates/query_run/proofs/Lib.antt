@@ -1,0 +1,13 @@
+mod Inputs
+mod HeadLines
+mod Requests
+mod Fronts
+mod OneFault
+mod OneOutcome
+mod Statuses
+mod Batches
+mod Streamed
+mod KeptTexts
+mod Readable
+mod Answered
+mod Endings

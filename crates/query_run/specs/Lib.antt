@@ -1,0 +1,4 @@
+pub mod Outcome
+pub mod Runs
+pub mod Laws
+pub mod proving
