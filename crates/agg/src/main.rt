@@ -2,7 +2,8 @@
 #![tactic(auto)]
 
 use agg_ports::{Put, Sink, StdSink, StdSource};
-use agg_program::{Status, run, status_number};
+use agg_program::{run, status_number};
+use refusals::Status;
 use std::env;
 use std::io::ErrorKind;
 use std::process::ExitCode;

@@ -1,9 +1,1 @@
-pub mod Digits
-pub mod Readings
-pub mod Places
-pub mod FrontNumbers
-pub mod FrontRows
-pub mod StandingRows
-pub mod Meanings
-pub mod Takes
-pub mod Ends
+mod Ends

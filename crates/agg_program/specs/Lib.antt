@@ -1,10 +1,3 @@
-pub mod Fields
-pub mod Rows
-pub mod Answer
-pub mod Request
-pub mod Refusals
-pub mod Run
-pub use Rattle.agg_ports.specs.Causes
-pub use Rattle.agg_ports.specs.Ports
-pub use Rattle.tsv_text.specs.Lines
+pub mod Exits
+pub mod Program
 pub mod proving

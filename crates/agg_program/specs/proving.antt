@@ -1,3 +1,2 @@
 -- What only serves proofs: no public contract stands on it.
-pub mod Columns
-pub mod Quick
+pub mod Refusing

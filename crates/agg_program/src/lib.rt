@@ -1,20 +1,11 @@
-//! The command `agg query`: counts and sums over columns of UInt64, from bytes to bytes. What a run comes to is one
-//! definition, `outcome` in specs/Run.antt, and `run` answers by it.
+//! The program `agg`, from its words, a source and a sink to its exit status.
+//!
+//! specs/Program.antt says what words come to and how a run ends; specs/Exits.antt has the exit statuses.
 #![tactic(auto)]
 
-mod answer;
-mod columns;
-mod fields;
-mod judge;
+mod exits;
 mod program;
-mod quick;
-mod read;
-mod request;
-mod rows;
-mod status;
-mod texts;
+mod refusing;
 
-pub use answer::Call;
-pub use fields::FieldFault;
+pub use exits::status_number;
 pub use program::run;
-pub use status::{RowWhy, Size, Status, Why, status_number};

@@ -1,5 +1,0 @@
-use Rattle.std.proofs.Common.{◌≡◌, ◌%◌, ◌^◌, take, sum}
-use Rattle.agg_program.proofs.columns.wrapping_sum.Given as goal
-
-abbrev pub invariant-loop-number : goal.invariant-loop-number
-invariant-loop-number l = l.total ≡ sum (take l.number-index l.numbers) % 2 ^ 64
