@@ -1,5 +1,0 @@
-//! The texts of refusals.
-#![tactic(auto)]
-
-#[cfg(test)]
-mod examples;
